@@ -1,0 +1,5 @@
+mod Rows
+mod Weaving
+mod TrackingRows
+pub mod NormalLists
+pub mod NormalSteps

@@ -1,0 +1,14 @@
+pub mod Numbers
+pub mod Names
+pub mod Shared
+pub mod Edit
+pub mod Step
+pub mod ChangeList
+pub mod Spans
+pub mod Tracking
+pub mod Hooks
+pub mod Denial
+pub mod Sorting
+pub mod Runs
+pub mod NewStarts
+pub mod Indexed

@@ -1,0 +1,41 @@
+//! What is told, what is answered, and the entries of a history. Plain values.
+#![tactic(auto)]
+
+use ed_base::{BufferNo, Refusal, SeatNo, SharedUnits, VersionList, VersionNo};
+use ed_script::Command;
+
+/// What happens at a seat.
+#[derive(Drop)]
+pub enum Event {
+    /// A command of the script is told.
+    Told(Command),
+}
+
+/// What is answered to an event.
+#[derive(Drop)]
+pub enum Reply {
+    /// The new buffer's number.
+    Made {
+        buffer: BufferNo,
+    },
+    /// The versions that were made.
+    Edited {
+        versions: VersionList,
+    },
+    /// A version of a buffer, with its units.
+    Text {
+        buffer: BufferNo,
+        version: VersionNo,
+        units: SharedUnits,
+    },
+    /// Why nothing was done.
+    Refused(Refusal),
+}
+
+/// An event at a seat, with its reply.
+#[derive(Drop)]
+pub struct Entry {
+    pub seat: SeatNo,
+    pub event: Event,
+    pub reply: Reply,
+}

@@ -1,0 +1,12 @@
+-- How events are printed: the word of the command, with the name that it gives, else that of the buffer that it names.
+use Rattle.std.specs.Prelude.{ℕ, List, ◌++◌, codes}
+use Rattle.ed_script.specs.declared.Command.{Command}
+use Rattle.ed_entry.specs.declared.Event.{Event}
+
+abbrev pub command_text : Command → List ℕ
+command_text (Command.Buffer name text) = codes "buffer " ++ name
+command_text (Command.Edit buffer replaces) = codes "edit " ++ buffer
+command_text (Command.Text buffer) = codes "text " ++ buffer
+
+abbrev pub event_text : Event → List ℕ
+event_text (Event.Told command) = command_text command

@@ -1,0 +1,37 @@
+//! How events are printed.
+ghost use Rattle.std.specs.Prelude.{◌≡◌, ◌++◌, OnOk};
+ghost use Rattle.ed_render.specs.Events.{command_text, event_text};
+
+use crate::push::{Line, word};
+use ed_base::{Name, OutOfMemory};
+use ed_entry::Event;
+use ed_script::Command;
+
+fn named(line: &mut Line, text: &str, name: &Name) -> Result<(), OutOfMemory>
+    ensures { OnOk result (line.new.items ≡ line.old.items ++ (text.now ++ name.now)) }
+{
+    word(line, text)?;
+    word(line, name.as_str())
+}
+
+fn command(line: &mut Line, command: &Command) -> Result<(), OutOfMemory>
+    ensures { OnOk result (line.new.items ≡ line.old.items ++ command_text command.now) }
+{
+    match command {
+        Command::Buffer { name, text: _ } => named(line, "buffer ", name),
+        Command::Edit {
+            buffer,
+            replaces: _,
+        } => named(line, "edit ", buffer),
+        Command::Text { buffer } => named(line, "text ", buffer),
+    }
+}
+
+/// Puts an event at the end of a line.
+pub fn event(line: &mut Line, event: &Event) -> Result<(), OutOfMemory>
+    ensures { OnOk result (line.new.items ≡ line.old.items ++ event_text event.now) }
+{
+    match event {
+        Event::Told(told) => command(line, told),
+    }
+}

@@ -1,0 +1,10 @@
+//! The output: a line for each entry of a history.
+#![tactic(auto)]
+
+mod events;
+mod lines;
+mod push;
+mod refusals;
+mod replies;
+
+pub use lines::line;

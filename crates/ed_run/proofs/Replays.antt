@@ -1,0 +1,105 @@
+-- From the parts of a replay to the main theorem.
+use Rattle.std.proofs.Common.{◌≡◌, ◌⊎◌, inl, inr, ℕ, ◌<◌, ◌^◌, Bool, true, false, List, [], Option, Some, None, refl, sym, ap, ◌∙◌, subst, length}
+use Rattle.std.proofs.KnownBytes.{Appends-nil}
+use Rattle.std.proofs.lemmas.Option.{none-some}
+use Rattle.std.proofs.lemmas.Bool.{lt-ltb}
+use Rattle.ed_io.specs.Bytes.{Took, Added, NoneLeft}
+use Rattle.ed_script.specs.declared.BadLine.{BadLine}
+use Rattle.ed_script.specs.Script.{script_of}
+use Rattle.ed_entry.specs.declared.Entry.{Entry}
+use Rattle.ed_machine.specs.History.{alone}
+use Rattle.ed_render.specs.Lines.{render}
+use Rattle.ed_run.specs.declared.report.Status.{Status}
+use Rattle.ed_run.specs.Calls.{Call, ReadFailed, WriteFailed, WrittenAs, DoneAs}
+use Rattle.ed_run.specs.Replaying.{ending, EndsAs, Performs, Plays}
+use Rattle.ed_run.specs.Headline.{HasCause, Replays}
+use Rattle.ed_run.proofs.Moving.{front_of_none}
+use Rattle.ed_run.proofs.Legal.{legal_done}
+
+-- ---- nothing was done
+
+pub nothing_performed : (all : List Entry) (a : Option (List ℕ)) (usual : Status) (failed : Type 0) (status : Status) (entries : List Entry) → status ≡ Status.Memory → entries ≡ [] → Performs all a a usual failed status entries
+nothing_performed all a usual failed status entries memory none = record {
+  done = rw (memory, none) (all, refl);
+  lines = rw (memory) (front_of_none a (render entries));
+  ends = inr (inr memory);
+}
+
+-- ---- causes
+
+usual_cause : (c : Call) (ended : Bool) (bad : Option BadLine) → (bad ≡ None → ended ≡ true) → HasCause c ended bad (ending bad)
+usual_cause c ended None met = (met refl, refl)
+usual_cause c ended (Some bad) met = refl
+
+cause_of : (c : Call) (ended : Bool) (bad : Option BadLine) (status : Status) → (bad ≡ None → ended ≡ true) → EndsAs (ending bad) (WriteFailed c) status → HasCause c ended bad status
+cause_of c ended bad status met ends = elim ends [
+  | inl usual ↦ (let P : Status → Type 0 = HasCause c ended bad in subst P (sym usual) (usual_cause c ended bad met))
+  | inr (inl failed) ↦ (let P : Status → Type 0 = HasCause c ended bad in subst P (sym failed.0) failed.1)
+  | inr (inr memory) ↦ (let P : Status → Type 0 = HasCause c ended bad in subst P (sym memory) tt)
+]
+
+usually : (bad : Option BadLine) (status usual : Status) (failed : Type 0) → usual ≡ ending bad → ¬ failed → EndsAs (ending bad) failed status → (status ≡ usual) ⊎ (status ≡ Status.Memory)
+usually bad status usual failed is unfailed ends = elim ends [
+  | inl e ↦ inl (e ∙ sym is)
+  | inr (inl f) ↦ absurd (unfailed f.1)
+  | inr (inr memory) ↦ inr memory
+]
+
+true-false : true ≡ false → ⊥
+true-false e = cc
+
+unmet : (read : List ℕ) (ended : Bool) → ((script_of read ended).bad ≡ None → ended ≡ true) → ended ≡ false → ¬ ((script_of read false).bad ≡ None)
+unmet read ended met e none = true-false (sym (met (ap (λ b. (script_of read b).bad) e ∙ none)) ∙ e)
+
+-- ---- the whole
+
+pub played : (c : Call) (read : List ℕ) (ended : Bool) → Took c.left_before read c.left_after → (ended ≡ true → NoneLeft c.left_after) → ((script_of read ended).bad ≡ None → ended ≡ true) → Plays read ended c.held_before c.held_after (WriteFailed c) c.status c.entries → Replays c
+played c read ended took end met plays = record {
+  read = read;
+  ended = ended;
+  took = took;
+  legal = legal_done c.status c.entries (script_of read ended).commands plays.done;
+  lines = plays.lines;
+  commands = plays.done;
+  end_met = end;
+  end_not_met = λ e. inr (inr (unmet read ended met e));
+  cause = cause_of c ended (script_of read ended).bad c.status met plays.ends;
+  bad_line = λ bad e unread unwritten. usually (script_of read ended).bad c.status (Status.BadScript bad.line bad.kind) (WriteFailed c) (sym (ap ending e)) unwritten plays.ends;
+  complete = λ e unread unwritten. usually (script_of read ended).bad c.status Status.Done (WriteFailed c) (sym (ap ending e)) unwritten plays.ends;
+}
+
+pub unread : (c : Call) (read : List ℕ) → Took c.left_before read c.left_after → ReadFailed c → c.held_after ≡ c.held_before → c.status ≡ Status.ReadFault → c.entries ≡ [] → Replays c
+unread c read took failed same fault none = record {
+  read = read;
+  ended = false;
+  took = took;
+  legal = rw none tt;
+  lines = rw (fault, none, same) (Appends-nil c.held_before);
+  commands = rw fault none;
+  end_met = λ e. absurd (true-false (sym e));
+  end_not_met = λ e. inl failed;
+  cause = rw fault (refl, failed);
+  bad_line = λ bad e unfailed unwritten. absurd (unfailed failed);
+  complete = λ e unfailed unwritten. absurd (unfailed failed);
+}
+
+pub forgotten : (c : Call) (read : List ℕ) → Took c.left_before read c.left_after → c.held_after ≡ c.held_before → c.status ≡ Status.Memory → c.entries ≡ [] → Replays c
+forgotten c read took same memory none = record {
+  read = read;
+  ended = false;
+  took = took;
+  legal = rw none tt;
+  lines = rw (memory, same) (front_of_none c.held_before (render c.entries));
+  commands = rw (memory, none) (alone (script_of read false).commands, refl);
+  end_met = λ e. absurd (true-false (sym e));
+  end_not_met = λ e. inr (inl memory);
+  cause = rw memory tt;
+  bad_line = λ bad e unfailed unwritten. inr memory;
+  complete = λ e unfailed unwritten. inr memory;
+}
+
+-- ---- a script of too many bytes
+
+pub too_long : (bytes : List ℕ) (ended : Bool) → 2 ^ 20 < length bytes → ¬ ((script_of bytes ended).bad ≡ None)
+unfolding script_of
+too_long bytes ended long none = none-some _ (sym (rw (lt-ltb (2 ^ 20) (length bytes) long) at none))

@@ -1,0 +1,7 @@
+pub mod Versions
+pub mod Editing
+pub mod Calls
+pub mod Replaying
+pub mod Headline
+pub mod Exit
+pub mod Words

@@ -1,0 +1,205 @@
+//! Whole replays, over memory.
+ghost use Rattle.std.specs.Prelude.{◌<◌};
+
+use crate::replay::replay_alone;
+use crate::report::Status;
+use crate::run::run;
+use ed_io::{MemorySink, MemorySource};
+use ed_script::BadKind;
+use std::test::*;
+
+/// What was written, and how the replay ended.
+#[derive(Drop)]
+struct Outcome {
+    written: Vec<u8>,
+    status: Status,
+    entries: usize,
+}
+
+/// A source that gives the script in pieces, with a read that fails (0: none).
+fn source_of(
+    rt: &impl AllocGlobal,
+    script: &str,
+    piece: u32,
+    failing: u32,
+) -> Result<MemorySource, Fail>
+    requires { 0 < piece }
+{
+    let mut bytes = Vec::new(rt.alloc());
+    bytes.extend_from_slice(script.as_bytes())?;
+    let fail_at = vec![in rt.alloc(); failing]?;
+    Ok(MemorySource::new(bytes, piece, fail_at))
+}
+
+/// Replays a script in pieces, with a read and a write that fail (0: none).
+fn played(
+    rt: &impl AllocGlobal,
+    script: &str,
+    piece: u32,
+    failing_read: u32,
+    failing_write: u32,
+) -> Result<Outcome, Fail>
+    requires { 0 < piece }
+{
+    let mut source = source_of(rt, script, piece, failing_read)?;
+    let fail_at = vec![in rt.alloc(); failing_write]?;
+    let mut sink = MemorySink::new(rt.alloc(), 1 << 21, piece, fail_at)?;
+    let report = replay_alone(rt.alloc(), &mut source, &mut sink);
+    let mut written = Vec::new(rt.alloc());
+    written.extend_from_slice(sink.written())?;
+    Ok(Outcome {
+        written,
+        status: report.status,
+        entries: report.entries.len(),
+    })
+}
+
+const fn bad(line: u32) -> Status {
+    Status::BadScript {
+        line,
+        kind: BadKind::NotCommand,
+    }
+}
+
+const BUFFER: &str = "{\"do\":\"buffer\",\"name\":\"a\",\"text\":\"0123456789\"}\n";
+
+/// An edit that deletes and puts in at two places, one past the end, one that changes nothing, and
+/// one of a buffer that isn't there.
+const SESSION: &str =
+    "{\"do\":\"buffer\",\"name\":\"a\",\"text\":\"0123456789\"}\n{\"do\":\"edit\",\"in\":\"a\",\"replaces\":[[0,5,\"a\"],[3,5,\"b\"]]}\n{\"do\":\"text\",\"in\":\"a\"}\n{\"do\":\"edit\",\"in\":\"a\",\"replaces\":[[4,1,\"\"]]}\n{\"do\":\"edit\",\"in\":\"a\",\"replaces\":[[1,0,\"\"]]}\n{\"do\":\"edit\",\"in\":\"z\",\"replaces\":[]}\n";
+
+const OUTPUT: &str =
+    "1 0 buffer a: made 0\n2 0 edit a: edited 0@1\n3 0 text a: 0@1 \"ab89\"\n4 0 edit a: refused 5 OutOfRange 5 4\n5 0 edit a: edited none\n6 0 edit z: refused 1 NoBuffer\n";
+
+#[test]
+fn replays_scripts_in_pieces_of_any_size(rt: HostRuntime) -> Result<(), Fail> {
+    let cases = [
+        ("", "", Status::Done),
+        (SESSION, OUTPUT, Status::Done),
+        (
+            "{\"do\":\"buffer\",\"name\":\"a\",\"text\":\"\"}\n \t\r\n{\"text\":\"b\",\"do\":\"buffer\",\"name\":\"b\"}\n{\"do\":\"buffer\",\"name\":\"a\",\"text\":\"x\"}",
+            "1 0 buffer a: made 0\n2 0 buffer b: made 1\n3 0 buffer a: refused 2 NameTaken\n",
+            Status::Done,
+        ),
+        ("{\"do\":\"fly\"}", "", bad(1)),
+        ("\n\nx\n{\"do\":\"text\",\"in\":\"a\"}\n", "", bad(3)),
+        (
+            "{\"do\":\"text\",\"in\":\"a\"}\n{\"do\":\"text\",\"in\":\"a\",\"at\":0}\n{\"do\":\"text\",\"in\":\"a\"}\n",
+            "1 0 text a: refused 1 NoBuffer\n",
+            bad(2),
+        ),
+        (
+            "{\"do\":\"text\",\"in\":\"a\"}\n{\"do\":\"buffer\",\"name\":\"a\",\"text\":\"\\\"\"}",
+            "1 0 text a: refused 1 NoBuffer\n",
+            bad(2),
+        ),
+    ];
+    for (script, output, status) in cases {
+        for piece in [1, 7, 5000] {
+            let replay = played(&rt, script, piece, 0, 0)?;
+            assert_eq!(rt; replay.written.as_slice(), output.as_bytes(), "{script}");
+            assert_eq!(rt; replay.status, status, "{script}");
+        }
+    }
+    Ok(())
+}
+
+#[test]
+fn edits_by_replaces_of_any_kind(rt: HostRuntime) -> Result<(), Fail> {
+    let cases = [
+        ("[2,6,\"x\"],[4,1,\"y\"]", "01xy89"),
+        ("[2,2,\"x\"],[4,2,\"y\"]", "01xy6789"),
+        ("[2,4,\"x\"],[4,4,\"y\"]", "01xy89"),
+        ("[7,1,\"z\"],[1,1,\"y\"]", "0y23456z89"),
+        ("[5,0,\"one\"],[5,2,\"\"],[5,0,\"two\"]", "01234onetwo789"),
+        ("[0,10,\"\"]", ""),
+        ("[0,0,\"<\"],[10,0,\">\"]", "<0123456789>"),
+        ("[3,1,\"3\"]", "0123456789"),
+    ];
+    for (replaces, text) in cases {
+        let script = format!(in rt.alloc();
+            "{BUFFER}{{\"do\":\"edit\",\"in\":\"a\",\"replaces\":[{replaces}]}}\n{{\"do\":\"text\",\"in\":\"a\"}}\n"
+        )?;
+        let output = format!(in rt.alloc();
+            "1 0 buffer a: made 0\n2 0 edit a: edited 0@1\n3 0 text a: 0@1 \"{text}\"\n"
+        )?;
+        let replay = played(&rt, script.as_str(), 4096, 0, 0)?;
+        assert_eq!(rt;
+            replay.written.as_slice(),
+            output.as_str().as_bytes(),
+            "{replaces}"
+        );
+    }
+    Ok(())
+}
+
+#[test]
+fn a_failed_write_ends_the_output(rt: HostRuntime) -> Result<(), Fail> {
+    for failing in 1..=OUTPUT.len() {
+        let replay = played(&rt, SESSION, 1, 0, failing as u32)?;
+        assert_eq!(rt;
+            replay.written.as_slice(),
+            &OUTPUT.as_bytes()[..failing - 1]
+        );
+        assert_eq!(rt; replay.status, Status::WriteFault);
+        assert_eq!(rt; replay.entries, 6);
+    }
+    Ok(())
+}
+
+#[test]
+fn a_failed_read_leaves_nothing_done(rt: HostRuntime) -> Result<(), Fail> {
+    let reads = SESSION.len().div_ceil(7) as u32 + 1;
+    for failing in 1..=reads {
+        let replay = played(&rt, SESSION, 7, failing, 0)?;
+        assert_eq!(rt; replay.status, Status::ReadFault, "{failing}");
+        assert_eq!(rt; replay.entries, 0);
+        assert!(rt; replay.written.is_empty());
+    }
+    let replay = played(&rt, SESSION, 7, reads + 1, 0)?;
+    assert_eq!(rt; replay.status, Status::Done);
+    Ok(())
+}
+
+#[test]
+fn long_lines_and_too_many_bytes(rt: HostRuntime) -> Result<(), Fail> {
+    let mut script = String::new(rt.alloc());
+    script.push_str("{\"do\":\"buffer\",\"name\":\"a\",\"text\":\"")?;
+    for _ in 0..100_000 {
+        script.push_str("0123456789")?;
+    }
+    script.push_str(
+        "\"}\n{\"do\":\"edit\",\"in\":\"a\",\"replaces\":[[1,999998,\"\"]]}\n{\"do\":\"text\",\"in\":\"a\"}\n",
+    )?;
+    let replay = played(&rt, script.as_str(), 4096, 0, 0)?;
+    assert_eq!(rt;
+        replay.written.as_slice(),
+        b"1 0 buffer a: made 0\n2 0 edit a: edited 0@1\n3 0 text a: 0@1 \"09\"\n".as_slice()
+    );
+    for _ in script.len()..1 << 20 {
+        script.push_str("\n")?;
+    }
+    assert_eq!(rt; played(&rt, script.as_str(), 4096, 0, 0)?.entries, 3);
+    script.push_str("\n")?;
+    let replay = played(&rt, script.as_str(), 4096, 0, 0)?;
+    assert_eq!(rt; replay.status, bad(1));
+    assert_eq!(rt; replay.entries, 0);
+    Ok(())
+}
+
+#[test]
+fn wrong_words_read_and_write_nothing(rt: HostRuntime) -> Result<(), Fail> {
+    for line in ["", "fly", "replay replay", "replay --workers", "Replay"] {
+        let mut words = Vec::new(rt.alloc());
+        for word in line.split_ascii_whitespace() {
+            words.push(String::from_str(rt.alloc(), word)?)?;
+        }
+        let mut source = source_of(&rt, SESSION, 7, 1)?;
+        let mut sink = MemorySink::new(rt.alloc(), 1, 1, vec![in rt.alloc(); 1]?)?;
+        let report = run(rt.alloc(), words.as_slice(), &mut source, &mut sink);
+        assert_eq!(rt; report.status, Status::Usage, "{line}");
+        assert!(rt; report.entries.is_empty());
+        assert!(rt; sink.written().is_empty());
+    }
+    Ok(())
+}

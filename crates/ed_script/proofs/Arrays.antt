@@ -1,0 +1,15 @@
+-- Arrays that are no replace.
+use Rattle.std.proofs.Common.{◌≡◌, ℕ, ◌<◌, ◌≤◌, List, [], ◌∷◌, length, Option, Some, None, refl}
+use Rattle.serde_json.specs.Data.{Data}
+use Rattle.serde_json.specs.Find.{as_array}
+use Rattle.serde_json.specs.View.{items_view}
+use Rattle.serde_json.specs.declared.value.Value.{Value}
+use Rattle.ed_script.specs.Fields.{replace}
+
+pub replace-none : (d : Data) (vs : List Value) → Some (items_view vs) ≡ as_array d → ¬ (length vs ≡ 3) → None ≡ replace d
+unfolding replace
+replace-none d [] e other = rw (← e) refl
+replace-none d (s ∷ []) e other = rw (← e) refl
+replace-none d (s ∷ l ∷ []) e other = rw (← e) refl
+replace-none d (s ∷ l ∷ t ∷ []) e other = absurd (other refl)
+replace-none d (s ∷ l ∷ t ∷ v ∷ vs) e other = rw (← e) refl

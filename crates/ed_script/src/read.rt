@@ -1,0 +1,129 @@
+//! Reading one line of a script.
+ghost use Rattle.std.specs.Prelude.{◌≡◌, Ok, Err, IfOk, IsErrOf, option_map};
+ghost use Rattle.std.specs.List.{list_all};
+ghost use Rattle.std.specs.Str.{is_utf8};
+ghost use Rattle.serde_json.specs.View.{view};
+ghost use Rattle.ed_script.specs.Lines.{is_blank};
+ghost use Rattle.ed_script.specs.Words as spec;
+ghost use Rattle.ed_script.specs.Script.{value_of, line_command};
+ghost use Rattle.ed_script.specs.declared.bad.BadKind.{BadKind};
+
+use crate::bad::LineFault;
+use crate::fields::{has_only, name_at, replaces_at, text_at, units_at};
+use crate::kinds::Command;
+use ed_base::OutOfMemory;
+use serde_json::Value;
+use std::alloc::Global;
+
+#[tactic(auto, unfolding(crate::specs::Words::buffer_command))]
+fn buffer_command(alloc: Global, value: &Value) -> Result<Option<Command>, OutOfMemory>
+    ensures { IfOk result (λ o. o ≡ spec.buffer_command (view value.now)) }
+{
+    if !has_only(value, &["do", "name", "text"]) {
+        return Ok(None);
+    }
+    let Some(name) = name_at(alloc, value, "name")? else {
+        return Ok(None);
+    };
+    let Some(text) = units_at(alloc, value, "text")? else {
+        return Ok(None);
+    };
+    Ok(Some(Command::Buffer { name, text }))
+}
+
+#[tactic(auto, unfolding(crate::specs::Words::edit_command))]
+fn edit_command(alloc: Global, value: &Value) -> Result<Option<Command>, OutOfMemory>
+    ensures { IfOk result (λ o. o ≡ spec.edit_command (view value.now)) }
+{
+    if !has_only(value, &["do", "in", "replaces"]) {
+        return Ok(None);
+    }
+    let Some(buffer) = name_at(alloc, value, "in")? else {
+        return Ok(None);
+    };
+    let Some(replaces) = replaces_at(alloc, value, "replaces")? else {
+        return Ok(None);
+    };
+    Ok(Some(Command::Edit { buffer, replaces }))
+}
+
+#[tactic(auto, unfolding(crate::specs::Words::text_command))]
+fn text_command(alloc: Global, value: &Value) -> Result<Option<Command>, OutOfMemory>
+    ensures { IfOk result (λ o. o ≡ spec.text_command (view value.now)) }
+{
+    if !has_only(value, &["do", "in"]) {
+        return Ok(None);
+    }
+    let Some(buffer) = name_at(alloc, value, "in")? else {
+        return Ok(None);
+    };
+    Ok(Some(Command::Text { buffer }))
+}
+
+#[tactic(auto, unfolding(crate::specs::Words::by_word))]
+fn by_word(alloc: Global, word: &str, value: &Value) -> Result<Option<Command>, OutOfMemory>
+    ensures { IfOk result (λ o. o ≡ spec.by_word word.now (view value.now)) }
+{
+    match word {
+        "buffer" => buffer_command(alloc, value),
+        "edit" => edit_command(alloc, value),
+        "text" => text_command(alloc, value),
+        _ => Ok(None),
+    }
+}
+
+#[tactic(auto, unfolding(crate::specs::Words::command_of))]
+fn command_of(alloc: Global, value: &Value) -> Result<Option<Command>, OutOfMemory>
+    ensures { IfOk result (λ o. o ≡ spec.command_of (view value.now)) }
+{
+    match text_at(value, "do") {
+        None => Ok(None),
+        Some(word) => by_word(alloc, word, value),
+    }
+}
+
+fn is_blank_line(line: &[u8]) -> bool
+    ensures { result ≡ is_blank line.now }
+{
+    line.iter()
+        .all(|byte| *byte == b'\t' || *byte == b'\r' || *byte == b' ')
+}
+
+/// The value of a line, or none where the line isn't JSON.
+#[tactic(auto, unfolding(crate::specs::Script::value_of))]
+fn value_of_line(alloc: Global, line: &[u8]) -> Result<Option<Value>, OutOfMemory>
+    ensures { IfOk result (λ o. option_map view o ≡ value_of line.now) }
+{
+    match Value::from_slice(alloc, line) {
+        Ok(value) => Ok(Some(value)),
+        Err(error) => {
+            if error.is_memory() {
+                Err(OutOfMemory)
+            } else {
+                Ok(None)
+            }
+        }
+    }
+}
+
+/// The command that a line gives, or none where the line is blank.
+///
+/// # Errors
+///
+/// The line isn't a command, or memory was refused.
+#[tactic(auto, unfolding(crate::specs::Script::line_command))]
+pub fn command(alloc: Global, line: &[u8]) -> Result<Option<Command>, LineFault>
+    ensures ok { IfOk result (λ o. line_command line.now ≡ Ok o) }
+    ensures not_command { IsErrOf result LineFault.NotCommand → line_command line.now ≡ Err BadKind.NotCommand }
+{
+    if is_blank_line(line) {
+        return Ok(None);
+    }
+    let Some(value) = value_of_line(alloc, line)? else {
+        return Err(LineFault::NotCommand);
+    };
+    match command_of(alloc, &value)? {
+        None => Err(LineFault::NotCommand),
+        Some(command) => Ok(Some(command)),
+    }
+}

@@ -1,0 +1,3 @@
+pub mod Ways
+pub mod Sides
+pub mod Linked

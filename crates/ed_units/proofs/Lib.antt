@@ -1,0 +1,2 @@
+mod FirstUnits
+mod Rows
