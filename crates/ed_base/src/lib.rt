@@ -13,7 +13,10 @@ mod refusal;
 mod rule;
 mod script;
 mod shared;
+mod steps;
 mod tags;
+#[cfg(test)]
+mod tests;
 mod units;
 
 pub use changes::Changes;
@@ -27,6 +30,7 @@ pub use refusal::{Refusal, What, Which};
 pub use rule::{CustomRule, CutRule, QueryRule, Rule, SharedRule};
 pub use script::{ScriptEdit, ScriptSpan, SpanHow};
 pub use shared::SharedList;
+pub use steps::Steps;
 pub use tags::{AnswerPart, FlushPart, TagImage};
 pub use units::{Unit, Units};
 

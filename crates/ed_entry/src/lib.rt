@@ -1,7 +1,7 @@
 //! What is told, what is answered, and the entries of a history. Plain values.
 #![tactic(auto)]
 
-use ed_base::{BufferNo, Refusal, SeatNo, SharedUnits, VersionList, VersionNo};
+use ed_base::{BufferNo, Changes, Refusal, SeatNo, SharedUnits, Span, VersionList, VersionNo};
 use ed_script::Command;
 
 /// What happens at a seat.
@@ -27,6 +27,18 @@ pub enum Reply {
         buffer: BufferNo,
         version: VersionNo,
         units: SharedUnits,
+    },
+    /// What leads from a version to the next.
+    Changes {
+        changes: Changes,
+    },
+    /// Where a point goes.
+    At {
+        pos: u32,
+    },
+    /// Where a span goes.
+    Span {
+        span: Span,
     },
     /// Why nothing was done.
     Refused(Refusal),

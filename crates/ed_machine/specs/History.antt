@@ -1,5 +1,5 @@
 -- Legal histories.
-use Rattle.std.specs.Prelude.{◌≡◌, ℕ, List, [], ◌∷◌}
+use Rattle.std.specs.Prelude.{◌≡◌, List, [], ◌∷◌}
 use Rattle.ed_script.specs.declared.Command.{Command}
 use Rattle.ed_entry.specs.declared.Event.{Event}
 use Rattle.ed_entry.specs.declared.Entry.{Entry}

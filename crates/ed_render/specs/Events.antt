@@ -7,6 +7,9 @@ abbrev pub command_text : Command → List ℕ
 command_text (Command.Buffer name text) = codes "buffer " ++ name
 command_text (Command.Edit buffer replaces) = codes "edit " ++ buffer
 command_text (Command.Text buffer) = codes "text " ++ buffer
+command_text (Command.Changes buffer from) = codes "changes " ++ buffer
+command_text (Command.Point buffer p mode at to) = codes "point " ++ buffer
+command_text (Command.Span buffer start len mode at to) = codes "span " ++ buffer
 
 abbrev pub event_text : Event → List ℕ
 event_text (Event.Told command) = command_text command

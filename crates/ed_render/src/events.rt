@@ -24,6 +24,9 @@ fn command(line: &mut Line, command: &Command) -> Result<(), OutOfMemory>
             replaces: _,
         } => named(line, "edit ", buffer),
         Command::Text { buffer } => named(line, "text ", buffer),
+        Command::Changes { buffer, from: _ } => named(line, "changes ", buffer),
+        Command::Point { buffer, .. } => named(line, "point ", buffer),
+        Command::Span { buffer, .. } => named(line, "span ", buffer),
     }
 }
 

@@ -1,11 +1,11 @@
 //! How replies are printed.
 ghost use Rattle.std.specs.Prelude.{◌≡◌, ◌++◌, codes, decimal, OnOk};
 ghost use Rattle.ed_units.specs.Quoted.{quoted};
-ghost use Rattle.ed_render.specs.Replies.{version_text, each_version, versions_text, reply_text};
+ghost use Rattle.ed_render.specs.Replies.{version_text, each_version, versions_text, change_text, each_change, changes_text, reply_text};
 
 use crate::push::{Line, number, word};
-use crate::refusals::refusal;
-use ed_base::{BufferNo, OutOfMemory, Unit, VersionNo};
+use crate::refusals::{refusal, span};
+use ed_base::{BufferNo, Change, OutOfMemory, Unit, VersionNo};
 use ed_entry::Reply;
 use ed_units::write_quoted;
 use std::alloc::Global;
@@ -67,6 +67,47 @@ fn text(
     write_quoted(units, line)
 }
 
+fn change(alloc: Global, line: &mut Line, change: &Change) -> Result<(), OutOfMemory>
+    ensures { OnOk result (line.new.items ≡ line.old.items ++ change_text change.now) }
+{
+    word(line, "(")?;
+    number(alloc, line, u64::from(change.start))?;
+    word(line, ",")?;
+    number(alloc, line, u64::from(change.old_len))?;
+    word(line, ",")?;
+    write_quoted(change.text.as_slice(), line)?;
+    word(line, ")")
+}
+
+fn each_change_of(alloc: Global, line: &mut Line, changes: &[Change]) -> Result<(), OutOfMemory>
+    ensures { OnOk result (line.new.items ≡ line.old.items ++ each_change changes.now) }
+{
+    for item in changes {
+        word(line, " ")?;
+        change(alloc, line, item)?;
+    }
+    Ok(())
+}
+
+fn changes(alloc: Global, line: &mut Line, changes: &[Change]) -> Result<(), OutOfMemory>
+    ensures { OnOk result (line.new.items ≡ line.old.items ++ changes_text changes.now) }
+{
+    match changes.split_first() {
+        None => word(line, "none"),
+        Some((first, others)) => {
+            change(alloc, line, first)?;
+            each_change_of(alloc, line, others)
+        }
+    }
+}
+
+fn at(alloc: Global, line: &mut Line, place: u32) -> Result<(), OutOfMemory>
+    ensures { OnOk result (line.new.items ≡ line.old.items ++ (codes "at " ++ decimal place)) }
+{
+    word(line, "at ")?;
+    number(alloc, line, u64::from(place))
+}
+
 fn made(alloc: Global, line: &mut Line, buffer: BufferNo) -> Result<(), OutOfMemory>
     ensures { OnOk result (line.new.items ≡ line.old.items ++ (codes "made " ++ decimal buffer)) }
 {
@@ -87,6 +128,9 @@ pub fn reply(alloc: Global, line: &mut Line, reply: &Reply) -> Result<(), OutOfM
             version,
             units,
         } => text(alloc, line, *buffer, *version, units.as_slice()),
+        Reply::Changes { changes: list } => changes(alloc, line, list.as_slice()),
+        Reply::At { pos } => at(alloc, line, *pos),
+        Reply::Span { span: place } => span(alloc, line, *place),
         Reply::Refused(cause) => refusal(alloc, line, *cause),
     }
 }

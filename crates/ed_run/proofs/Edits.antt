@@ -29,10 +29,19 @@ element [] i x within e = absurd (omega arith)
 element (y ∷ ys) zero x within e = e
 element (y ∷ ys) (suc i) x within e = element ys i x (omega arith) e
 
+-- a buffer that was looked up by its name
+module _ (names : List (List ℕ)) (xs : List Buffer) (s : State) (name : List ℕ) (n : ℕ) (x : Buffer) (seen : record { names = names; buffers = xs } ≡ s) (same : length names ≡ length xs) (found : Some n ≡ number_of s name) (at : x ≡ get_or xs n x) where
+  found_in : position (bytes_eq name) names ≡ Some n
+  found_in = ap (λ (t : State). number_of t name) seen ∙ sym found
+
+  here : x ≡ unwrap_or (slice_get xs n) no_buffer
+  here = let within = (position-Some (bytes_eq name) names n [] found_in).0 in element xs n x (omega arith) at
+
+  pub is_buffer : x ≡ buffer s n
+  is_buffer = here ∙ ap (λ (t : State). buffer t n) seen
+
 pub edit_leaves : (names : List (List ℕ)) (xs : List Buffer) (s : State) (name : List ℕ) (replaces : List Replace) (n : ℕ) (x after : Buffer) → record { names = names; buffers = xs } ≡ s → length names ≡ length xs → Some n ≡ number_of s name → x ≡ get_or xs n x → after ≡ edit_state x replaces → record { names = names; buffers = slice_set xs n after } ≡ (step s (Event.Told (Command.Edit name replaces))).state
 edit_leaves names xs s name replaces n x after seen same found at is =
-    let found_in : position (bytes_eq name) names ≡ Some n = ap (λ (t : State). number_of t name) seen ∙ sym found in
-    let within = (position-Some (bytes_eq name) names n [] found_in).0 in
-    let here : x ≡ unwrap_or (slice_get xs n) no_buffer = element xs n x (omega arith) at in
-    let now : (step (record { names = names; buffers = xs }) (Event.Told (Command.Edit name replaces))).state ≡ record { names = names; buffers = slice_set xs n (edit_state (unwrap_or (slice_get xs n) no_buffer) replaces) } = edited_state (record { names = names; buffers = xs }) name replaces n found_in in
-    ap (λ y. record { names = names; buffers = slice_set xs n y }) (is ∙ ap (λ y. edit_state y replaces) here) ∙ sym now ∙ ap (λ (t : State). (step t (Event.Told (Command.Edit name replaces))).state) seen
+    let found_at : position (bytes_eq name) names ≡ Some n = found_in names xs s name n x seen same found at in
+    let now : (step (record { names = names; buffers = xs }) (Event.Told (Command.Edit name replaces))).state ≡ record { names = names; buffers = slice_set xs n (edit_state (unwrap_or (slice_get xs n) no_buffer) replaces) } = edited_state (record { names = names; buffers = xs }) name replaces n found_at in
+    ap (λ y. record { names = names; buffers = slice_set xs n y }) (is ∙ ap (λ y. edit_state y replaces) (here names xs s name n x seen same found at)) ∙ sym now ∙ ap (λ (t : State). (step t (Event.Told (Command.Edit name replaces))).state) seen

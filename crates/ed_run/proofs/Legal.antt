@@ -1,6 +1,5 @@
 -- The history of one seat that works alone is legal, and so is each beginning of it.
-use Rattle.std.proofs.Common.{◌≡◌, ℕ, List, [], ◌∷◌, ◌++◌, refl, sym, subst}
-use mathlib.Core.List.{IsPrefix}
+use Rattle.std.proofs.Common.{◌≡◌, List, [], ◌∷◌, ◌++◌, refl, sym, subst}
 use Rattle.ed_script.specs.declared.Command.{Command}
 use Rattle.ed_entry.specs.declared.Entry.{Entry}
 use Rattle.ed_machine.specs.State.{State, empty_state}

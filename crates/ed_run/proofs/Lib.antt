@@ -5,3 +5,5 @@ pub mod Moving
 pub mod Legal
 pub mod Replays
 pub mod Rendered
+pub mod Linking
+pub mod Answering

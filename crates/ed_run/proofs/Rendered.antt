@@ -1,5 +1,5 @@
 -- What is rendered entry by entry.
-use Rattle.std.proofs.Common.{◌≡◌, ℕ, suc, ◌+◌, ◌<◌, List, [], ◌∷◌, ◌++◌, Option, length, get_or, drop, sym, ap, ◌∙◌, append_assoc, add-one, drop-cons}
+use Rattle.std.proofs.Common.{◌≡◌, ℕ, ◌+◌, ◌<◌, List, ◌∷◌, ◌++◌, Option, length, get_or, drop, sym, ap, ◌∙◌, append_assoc, add-one, drop-cons}
 use Rattle.std.proofs.KnownBytes.{Appends-trans}
 use Rattle.ed_io.specs.Bytes.{Added, AddedFront}
 use Rattle.ed_entry.specs.declared.Entry.{Entry}

@@ -3,14 +3,14 @@ use Rattle.std.proofs.Common.{◌≡◌, ◌⊎◌, inl, inr, ℕ, ◌<◌, ◌^
 use Rattle.std.proofs.KnownBytes.{Appends-nil}
 use Rattle.std.proofs.lemmas.Option.{none-some}
 use Rattle.std.proofs.lemmas.Bool.{lt-ltb}
-use Rattle.ed_io.specs.Bytes.{Took, Added, NoneLeft}
+use Rattle.ed_io.specs.Bytes.{Took, NoneLeft}
 use Rattle.ed_script.specs.declared.BadLine.{BadLine}
 use Rattle.ed_script.specs.Script.{script_of}
 use Rattle.ed_entry.specs.declared.Entry.{Entry}
 use Rattle.ed_machine.specs.History.{alone}
 use Rattle.ed_render.specs.Lines.{render}
 use Rattle.ed_run.specs.declared.report.Status.{Status}
-use Rattle.ed_run.specs.Calls.{Call, ReadFailed, WriteFailed, WrittenAs, DoneAs}
+use Rattle.ed_run.specs.Calls.{Call, ReadFailed, WriteFailed}
 use Rattle.ed_run.specs.Replaying.{ending, EndsAs, Performs, Plays}
 use Rattle.ed_run.specs.Headline.{HasCause, Replays}
 use Rattle.ed_run.proofs.Moving.{front_of_none}

@@ -1,5 +1,5 @@
 -- The main theorem.
-use Rattle.std.specs.Prelude.{◌≡◌, ◌≢◌, ◌↔◌, ◌⊎◌, ℕ, Bool, true, false, List, [], ◌∷◌, codes, Option, Some, None}
+use Rattle.std.specs.Prelude.{◌≡◌, ◌≢◌, ◌⊎◌, ℕ, Bool, true, false, List, [], Option, Some, None}
 use Rattle.ed_io.specs.Bytes.{Took, NoneLeft}
 use Rattle.ed_script.specs.declared.BadLine.{BadLine}
 use Rattle.ed_script.specs.Script.{script_of}

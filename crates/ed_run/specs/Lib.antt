@@ -1,5 +1,6 @@
 pub mod Versions
 pub mod Editing
+pub mod Reading
 pub mod Calls
 pub mod Replaying
 pub mod Headline

@@ -1,17 +1,22 @@
 //! A base buffer: its texts by version, and what led from each to the next.
-ghost use Rattle.std.specs.Prelude.{◌≡◌, ◌↔◌, ◌+◌, ◌-◌, ◌<◌, ◌≤◌, ◌^◌, length, IsTrue, IfOk, OnOk, OnErr};
-ghost use Rattle.ed_base.specs.Edit.{units_put_in};
-ghost use Rattle.ed_base.specs.ChangeList.{applied};
+ghost use Rattle.std.specs.Prelude.{◌≡◌, ◌↔◌, ◌+◌, ◌-◌, ◌<◌, ◌≤◌, ◌^◌, ℕ, length, option_map, slice_get, slice_range, IsTrue, IfOk, OnOk, OnErr};
+ghost use Rattle.ed_base.specs.ChangeList.{applied, new_len};
 ghost use Rattle.ed_machine.specs.State.{new_buffer, now, text_now};
-ghost use Rattle.ed_machine.specs.Step.{grown};
+ghost use Rattle.ed_machine.specs.Step.{grown, version_or_now, past_version, no_version, untracked, tracked_to};
+ghost use Rattle.ed_base.specs.Numbers.{first_some};
+ghost use Rattle.ed_base.specs.Spans.{end_of};
+ghost use Rattle.ed_base.specs.Tracking.{tracked_point, tracked_span};
+ghost use Rattle.ed_track.specs.Linked.{AreLinked, len_before, len_after};
+ghost use Rattle.ed_run.specs.Reading.{text_at, changes_answer, point_answer, span_answer};
 ghost use Rattle.ed_run.specs.Editing.{edit_answer, edit_state, changed_reply, changed_buffer};
 
 use ed_base::{
-    BufferNo, Changes, OutOfMemory, Refusal, Replace, SharedList, SharedUnits, Unit, VersionList,
-    VersionNo,
+    BufferNo, Changes, OutOfMemory, PointMode, Refusal, Replace, SharedList, SharedUnits, Span,
+    SpanMode, Unit, VersionList, VersionNo, What,
 };
-use ed_change::{ChangeFault, apply, normalise};
+use ed_change::{ChangeFault, apply, normalise, puts_in_at_most};
 use ed_entry::Reply;
+use ed_track::{back_point_through, back_span_through, point_through, span_through};
 use std::alloc::Global;
 use std::marker::Model;
 
@@ -19,7 +24,7 @@ use std::marker::Model;
 const MOST_UNITS: usize = 1 << 22;
 
 /// The most units that one edit puts in.
-const MOST_PUT_IN: usize = 1 << 27;
+const MOST_PUT_IN: u64 = 1 << 27;
 
 /// A base buffer. Its texts are shared with those who asked for them.
 #[derive(Drop)]
@@ -40,19 +45,13 @@ impl Model for Base {
     ghost invariant = { λ b. Follows b.texts.items b.changes.items × (length b.texts.items < 2 ^ 32) };
 }
 
-/// Whether an edit puts in no more units than one edit may.
-fn fits(replaces: &[Replace]) -> bool
-    ensures { IsTrue result → units_put_in replaces.now ≤ 2 ^ 27 }
+/// The change lists with these indices.
+fn part(changes: &[Changes], from: usize, to: usize) -> &[Changes]
+    requires order { from ≤ to }
+    requires there { to ≤ length changes.now }
+    ensures { result.now ≡ slice_range changes.now from to }
 {
-    let mut total = 0;
-    for replace in replaces {
-        let len = replace.text.as_slice().len();
-        if len > MOST_PUT_IN - total {
-            return false;
-        }
-        total += len;
-    }
-    true
+    &changes[from..to]
 }
 
 impl Base {
@@ -79,7 +78,8 @@ impl Base {
 
     /// The current version.
     pub fn version(&self) -> VersionNo
-        ensures { result ≡ now self.now }
+        ensures version { result ≡ now self.now }
+        ensures some { 0 < length self.now.texts }
     {
         VersionNo((self.texts.len() - 1) as u32)
     }
@@ -120,6 +120,7 @@ impl Base {
         requires room { length self.old.texts < 2 ^ 32 - 1 }
         requires from { changes.old_len ≡ length (text_now self.old) }
         requires to { text ≡ applied changes (text_now self.old) }
+        requires len { new_len changes ≡ length text }
         requires short { length text ≤ 2 ^ 22 }
         ensures ok { OnOk result (self.new ≡ grown self.old text changes) }
         ensures err { OnErr result (self.new ≡ self.old) }
@@ -176,7 +177,7 @@ impl Base {
         ensures state { OnOk result (self.new ≡ edit_state self.old replaces.now) }
         ensures err { OnErr result (self.new ≡ self.old) }
     {
-        if !fits(replaces) {
+        if !puts_in_at_most(replaces, MOST_PUT_IN) {
             return Err(OutOfMemory);
         }
         match normalise(alloc, self.len(), replaces) {
@@ -185,6 +186,151 @@ impl Base {
                 Ok(Reply::Refused(Refusal::OutOfRange { end, len }))
             }
             Err(ChangeFault::OutOfMemory) => Err(OutOfMemory),
+        }
+    }
+
+    /// A version's number, by default the current one's.
+    pub fn version_or_now(&self, at: Option<VersionNo>) -> u32
+        ensures { result ≡ version_or_now self.now at }
+    {
+        match at {
+            None => {
+                let now = self.version();
+                now.0
+            }
+            Some(version) => version.0,
+        }
+    }
+
+    /// The length of a version's text, where that version is there.
+    fn len_of(&self, version: u32) -> Option<u32>
+        ensures { result ≡ option_map length (slice_get self.now.texts version) }
+    {
+        let text = self.texts.get(version as usize)?;
+        Some(text.as_slice().len() as u32)
+    }
+
+    /// The refusal of a version that isn't there.
+    fn no_version(&self, version: u32) -> Option<Refusal>
+        ensures refusal { result ≡ no_version self.now version }
+        ensures there { result ≡ None → version < length self.now.texts }
+    {
+        let now = self.version();
+        if now.0 < version {
+            let what = What::Version;
+            return Some(Refusal::NoSuch { what });
+        }
+        None
+    }
+
+    /// The refusal of a place past the text of a version that is there.
+    fn past_version(&self, version: u32, end: u64) -> Option<Refusal>
+        ensures refusal { result ≡ past_version self.now version end }
+        ensures within { result ≡ None → version < length self.now.texts → end ≤ length (text_at self.now version) }
+    {
+        let len = self.len_of(version)?;
+        if u64::from(len) < end {
+            return Some(Refusal::OutOfRange { end, len });
+        }
+        None
+    }
+
+    /// Why nothing is tracked that ends at a place of one version to another.
+    fn untracked(&self, from: u32, to: u32, end: u64) -> Option<Refusal>
+        ensures refusal { result ≡ first_some (untracked self.now from to end) }
+        ensures from_there { result ≡ None → from < length self.now.texts }
+        ensures to_there { result ≡ None → to < length self.now.texts }
+        ensures within { result ≡ None → end ≤ length (text_at self.now from) }
+    {
+        if let Some(refusal) = self.past_version(from, end) {
+            return Some(refusal);
+        }
+        if let Some(refusal) = self.no_version(from) {
+            return Some(refusal);
+        }
+        self.no_version(to)
+    }
+
+    /// What leads from one version to another that isn't older.
+    fn steps(&self, from: u32, to: u32) -> &[Changes]
+        requires order { from ≤ to }
+        requires there { to < length self.now.texts }
+        ensures steps { result.now ≡ slice_range self.now.changes from to }
+        ensures linked { AreLinked result.now }
+        ensures before { (p : ℕ) → p ≤ length (text_at self.now from) → p ≤ len_before p result.now }
+        ensures after { (p : ℕ) → p ≤ length (text_at self.now to) → p ≤ len_after p result.now }
+    {
+        part(self.changes.as_slice(), from as usize, to as usize)
+    }
+
+    /// Where a point of one version goes in another.
+    fn tracked_point(&self, mode: PointMode, pos: u32, from: u32, to: u32) -> u32
+        requires from_there { from < length self.now.texts }
+        requires to_there { to < length self.now.texts }
+        requires within { pos ≤ length (text_at self.now from) }
+        ensures { result ≡ tracked_to (tracked_point mode) self.now pos from to }
+    {
+        if from <= to {
+            point_through(mode, pos, self.steps(from, to))
+        } else {
+            back_point_through(mode, pos, self.steps(to, from))
+        }
+    }
+
+    /// Where a span of one version goes in another.
+    fn tracked_span(&self, mode: SpanMode, span: Span, from: u32, to: u32) -> Span
+        requires from_there { from < length self.now.texts }
+        requires to_there { to < length self.now.texts }
+        requires within { end_of span ≤ length (text_at self.now from) }
+        ensures { result ≡ tracked_to (tracked_span mode) self.now span from to }
+    {
+        if from <= to {
+            span_through(mode, span, self.steps(from, to))
+        } else {
+            back_span_through(mode, span, self.steps(to, from))
+        }
+    }
+
+    /// Where a point of version `from` goes in version `to`.
+    pub fn point(&self, mode: PointMode, pos: u32, from: u32, to: u32) -> Reply
+        ensures { result ≡ point_answer self.now mode pos from to }
+    {
+        match self.untracked(from, to, u64::from(pos)) {
+            Some(refusal) => Reply::Refused(refusal),
+            None => Reply::At {
+                pos: self.tracked_point(mode, pos, from, to),
+            },
+        }
+    }
+
+    /// Where a span of version `from` goes in version `to`.
+    pub fn span(&self, mode: SpanMode, span: Span, from: u32, to: u32) -> Reply
+        ensures { result ≡ span_answer self.now mode span from to }
+    {
+        let end = u64::from(span.start) + u64::from(span.len);
+        match self.untracked(from, to, end) {
+            Some(refusal) => Reply::Refused(refusal),
+            None => Reply::Span {
+                span: self.tracked_span(mode, span, from, to),
+            },
+        }
+    }
+
+    /// What leads from a version to the next.
+    ///
+    /// # Errors
+    ///
+    /// A further holder was refused, which counts as want of memory.
+    pub fn changes_from(&self, from: u32) -> Result<Reply, OutOfMemory>
+        ensures { IfOk result (λ r. r ≡ changes_answer self.now from) }
+    {
+        match self.changes.get(from as usize) {
+            None => Ok(Reply::Refused(Refusal::NoSuch {
+                what: What::Version,
+            })),
+            Some(changes) => Ok(Reply::Changes {
+                changes: changes.share()?,
+            }),
         }
     }
 }

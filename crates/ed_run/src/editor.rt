@@ -7,7 +7,9 @@ ghost use Rattle.ed_machine.specs.Step.{step};
 ghost use Rattle.ed_entry.specs.declared.Event.{Event as Happening};
 
 use crate::base::Base;
-use ed_base::{BufferNo, Name, OutOfMemory, Refusal, ReplaceList, Unit};
+use ed_base::{
+    BufferNo, Name, OutOfMemory, PointMode, Refusal, ReplaceList, Span, SpanMode, Unit, VersionNo,
+};
 use ed_entry::{Event, Reply};
 use ed_script::Command;
 use indexmap::IndexSet;
@@ -122,6 +124,62 @@ impl Editor {
         })
     }
 
+    /// What leads from a version of a buffer to the next.
+    #[tactic(auto, unfolding(ed_machine::specs::Step::step, ed_machine::specs::Step::tests, ed_machine::specs::Step::accepted))]
+    fn changes(&self, name: &Name, from: VersionNo) -> Result<Reply, OutOfMemory>
+        ensures reply { IfOk result (λ r. r ≡ (step self.now (Happening.Told (Told.Changes name.now from))).reply) }
+        ensures same { OnOk result (self.now ≡ (step self.now (Happening.Told (Told.Changes name.now from))).state) }
+    {
+        let Some(number) = self.number_of(name) else {
+            return Ok(Reply::Refused(Refusal::NoBuffer));
+        };
+        let base = &self.buffers[number];
+        let reply = base.changes_from(from.0)?;
+        Ok(reply)
+    }
+
+    /// Where a point goes.
+    #[tactic(auto, unfolding(ed_machine::specs::Step::step, ed_machine::specs::Step::tests, ed_machine::specs::Step::accepted))]
+    fn point(
+        &self,
+        name: &Name,
+        pos: u32,
+        mode: PointMode,
+        at: Option<VersionNo>,
+        to: Option<VersionNo>,
+    ) -> Reply
+        ensures reply { result ≡ (step self.now (Happening.Told (Told.Point name.now pos mode at to))).reply }
+        ensures same { self.now ≡ (step self.now (Happening.Told (Told.Point name.now pos mode at to))).state }
+    {
+        let Some(number) = self.number_of(name) else {
+            return Reply::Refused(Refusal::NoBuffer);
+        };
+        let base = &self.buffers[number];
+        let from = base.version_or_now(at);
+        base.point(mode, pos, from, base.version_or_now(to))
+    }
+
+    /// Where a span goes.
+    #[tactic(auto, unfolding(ed_machine::specs::Step::step, ed_machine::specs::Step::tests, ed_machine::specs::Step::accepted))]
+    fn span(
+        &self,
+        name: &Name,
+        span: Span,
+        mode: SpanMode,
+        at: Option<VersionNo>,
+        to: Option<VersionNo>,
+    ) -> Reply
+        ensures reply { result ≡ (step self.now (Happening.Told (Told.Span name.now span.start span.len mode at to))).reply }
+        ensures same { self.now ≡ (step self.now (Happening.Told (Told.Span name.now span.start span.len mode at to))).state }
+    {
+        let Some(number) = self.number_of(name) else {
+            return Reply::Refused(Refusal::NoBuffer);
+        };
+        let base = &self.buffers[number];
+        let from = base.version_or_now(at);
+        base.span(mode, span, from, base.version_or_now(to))
+    }
+
     /// Edits a buffer.
     #[tactic(auto, unfolding(ed_machine::specs::Step::step, ed_machine::specs::Step::tests, ed_machine::specs::Step::accepted))]
     fn edit(
@@ -153,6 +211,28 @@ impl Editor {
             Command::Buffer { name, text } => self.make(alloc, name, text.as_slice()),
             Command::Edit { buffer, replaces } => self.edit(alloc, buffer, replaces),
             Command::Text { buffer } => self.text(buffer),
+            Command::Changes { buffer, from } => self.changes(buffer, *from),
+            Command::Point {
+                buffer,
+                pos,
+                mode,
+                at,
+                to,
+            } => Ok(self.point(buffer, *pos, *mode, *at, *to)),
+            Command::Span {
+                buffer,
+                start,
+                len,
+                mode,
+                at,
+                to,
+            } => {
+                let span = Span {
+                    start: *start,
+                    len: *len,
+                };
+                Ok(self.span(buffer, span, *mode, *at, *to))
+            }
         }
     }
 

@@ -134,6 +134,102 @@ fn edits_by_replaces_of_any_kind(rt: HostRuntime) -> Result<(), Fail> {
 }
 
 #[test]
+fn tells_changes_and_tracks_across_versions(rt: HostRuntime) -> Result<(), Fail> {
+    let questions = [
+        (
+            "changes",
+            "\"from\":0",
+            "(1,0,\"<\") (3,3,\"Q\") (10,0,\">\")",
+        ),
+        ("changes", "\"from\":1", "(5,4,\"\")"),
+        ("changes", "\"from\":2", "refused 15 NoSuch Version"),
+        (
+            "point",
+            "\"pos\":3,\"mode\":\"negative\",\"at\":0,\"to\":1",
+            "at 4",
+        ),
+        (
+            "point",
+            "\"pos\":3,\"mode\":\"positive\",\"at\":0,\"to\":1",
+            "at 5",
+        ),
+        ("point", "\"pos\":7,\"mode\":\"positive\",\"at\":0", "at 5"),
+        ("point", "\"pos\":5,\"mode\":\"positive\",\"to\":0", "at 10"),
+        ("point", "\"pos\":5,\"mode\":\"negative\",\"to\":0", "at 3"),
+        (
+            "point",
+            "\"pos\":7,\"mode\":\"negative\"",
+            "refused 5 OutOfRange 7 6",
+        ),
+        (
+            "point",
+            "\"pos\":10,\"mode\":\"negative\",\"at\":0,\"to\":0",
+            "at 10",
+        ),
+        (
+            "point",
+            "\"pos\":99,\"mode\":\"negative\",\"at\":3",
+            "refused 15 NoSuch Version",
+        ),
+        (
+            "point",
+            "\"pos\":0,\"mode\":\"negative\",\"to\":3",
+            "refused 15 NoSuch Version",
+        ),
+        (
+            "span",
+            "\"start\":1,\"len\":2,\"mode\":\"exclusive\",\"at\":0,\"to\":1",
+            "[2,4)",
+        ),
+        (
+            "span",
+            "\"start\":1,\"len\":2,\"mode\":\"inclusive\",\"at\":0,\"to\":1",
+            "[1,5)",
+        ),
+        (
+            "span",
+            "\"start\":1,\"len\":2,\"mode\":\"positive\",\"at\":0,\"to\":1",
+            "[2,5)",
+        ),
+        (
+            "span",
+            "\"start\":1,\"len\":2,\"mode\":\"negative\",\"at\":0,\"to\":1",
+            "[1,4)",
+        ),
+        (
+            "span",
+            "\"start\":3,\"len\":3,\"mode\":\"exclusive\",\"at\":0,\"to\":1",
+            "[5,5)",
+        ),
+        (
+            "span",
+            "\"start\":4,\"len\":1,\"mode\":\"inclusive\",\"to\":0",
+            "[3,10)",
+        ),
+        (
+            "span",
+            "\"start\":4,\"len\":3,\"mode\":\"inclusive\"",
+            "refused 5 OutOfRange 7 6",
+        ),
+    ];
+    for (word, keys, answer) in questions {
+        let script = format!(in rt.alloc();
+            "{BUFFER}{{\"do\":\"edit\",\"in\":\"a\",\"replaces\":[[1,0,\"<\"],[3,3,\"Q\"],[10,0,\">\"]]}}\n{{\"do\":\"edit\",\"in\":\"a\",\"replaces\":[[5,3,\"\"],[7,2,\"\"]]}}\n{{\"do\":\"{word}\",\"in\":\"a\",{keys}}}\n"
+        )?;
+        let output = format!(in rt.alloc();
+            "1 0 buffer a: made 0\n2 0 edit a: edited 0@1\n3 0 edit a: edited 0@2\n4 0 {word} a: {answer}\n"
+        )?;
+        let replay = played(&rt, script.as_str(), 4096, 0, 0)?;
+        assert_eq!(rt;
+            replay.written.as_slice(),
+            output.as_str().as_bytes(),
+            "{word} {keys}"
+        );
+    }
+    Ok(())
+}
+
+#[test]
 fn a_failed_write_ends_the_output(rt: HostRuntime) -> Result<(), Fail> {
     for failing in 1..=OUTPUT.len() {
         let replay = played(&rt, SESSION, 1, 0, failing as u32)?;

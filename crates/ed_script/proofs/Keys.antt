@@ -1,6 +1,6 @@
 -- The keys of an object, as its map lists them.
-use Rattle.std.proofs.Common.{◌≡◌, ℕ, Bool, List, [], ◌∷◌, map, refl, ap}
-use Rattle.std.specs.Prelude.{◌&&◌, ◌||◌, string_bytes, String}
+use Rattle.std.proofs.Common.{◌≡◌, ℕ, List, [], ◌∷◌, map, refl, ap}
+use Rattle.std.specs.Prelude.{◌||◌, string_bytes, String}
 use Rattle.std.specs.List.{list_any, list_all}
 use Rattle.std.specs.declared.alloc.Global.{Global}
 use Rattle.std.specs.Str.{bytes_eq}

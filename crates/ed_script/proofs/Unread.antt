@@ -1,11 +1,10 @@
 -- A script, by what was read of it and what is unread.
-use Rattle.std.proofs.Common.{◌≡◌, ℕ, ◌+◌, Bool, true, false, List, [], ◌∷◌, ◌++◌, take, drop, Option, Some, None, Ok, Err, refl, sym, ◌∙◌, ap, append_assoc, append-nil}
+use Rattle.std.proofs.Common.{◌≡◌, ℕ, ◌+◌, Bool, List, ◌++◌, take, drop, Option, Some, None, Ok, Err, refl, sym, ◌∙◌, ap, append_assoc, append-nil}
 use Rattle.std.specs.Prelude.{nat_eq, position}
 use Rattle.ed_script.specs.declared.kinds.Command.{Command}
 use Rattle.ed_script.specs.declared.bad.BadKind.{BadKind}
-use Rattle.ed_script.specs.Lines.{Cut, lines_of}
-use Rattle.ed_script.specs.Script.{Script, line_command, then_script, script_from, last_line, unread, listed, bad_at, with_commands}
-use Rattle.ed_script.proofs.Cuts.{line_before, cut-some, cut-none}
+use Rattle.ed_script.specs.Script.{Script, line_command, then_script, last_line, unread, listed, bad_at, with_commands}
+use Rattle.ed_script.proofs.Cuts.{cut-some, cut-none}
 
 unread-some : (ended : Bool) (n : ℕ) (bytes : List ℕ) (e : ℕ) → position (λ b. nat_eq b 10) bytes ≡ Some e → unread ended n bytes ≡ then_script n (line_command (take e bytes)) (unread ended (n + 1) (drop (e + 1) bytes))
 unread-some ended n bytes e at_end = rw (cut-some bytes e at_end) refl

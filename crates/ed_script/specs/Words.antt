@@ -4,7 +4,7 @@ use Rattle.std.specs.Str.{bytes_eq}
 use Rattle.serde_json.specs.Data.{Data}
 use Rattle.serde_json.specs.Find.{as_str}
 use Rattle.ed_script.specs.declared.kinds.Command.{Command}
-use Rattle.ed_script.specs.Fields.{◌>>=◌, required, has_only, list_of, name, text, replace}
+use Rattle.ed_script.specs.Fields.{◌>>=◌, required, has_only, list_of, optional, name, whole, text, replace, point_mode, span_mode}
 
 abbrev in_ : Data → Option (List ℕ)
 in_ d = required (codes "in") name d
@@ -27,12 +27,39 @@ text_command d =
     then (in_ d >>= λ b. Some (Command.Text b))
     else None
 
+unfoldable pub changes_command : Data → Option Command
+changes_command d =
+    if has_only (codes "do" ∷ codes "in" ∷ codes "from" ∷ []) d
+    then (in_ d >>= λ b. required (codes "from") whole d >>= λ v. Some (Command.Changes b v))
+    else None
+
+abbrev at : Data → Option (Option ℕ)
+at d = optional (codes "at") whole d
+
+abbrev to : Data → Option (Option ℕ)
+to d = optional (codes "to") whole d
+
+unfoldable pub point_command : Data → Option Command
+point_command d =
+    if has_only (codes "do" ∷ codes "in" ∷ codes "pos" ∷ codes "mode" ∷ codes "at" ∷ codes "to" ∷ []) d
+    then (in_ d >>= λ b. required (codes "pos") whole d >>= λ p. required (codes "mode") point_mode d >>= λ m. at d >>= λ v. to d >>= λ w. Some (Command.Point b p m v w))
+    else None
+
+unfoldable pub span_command : Data → Option Command
+span_command d =
+    if has_only (codes "do" ∷ codes "in" ∷ codes "start" ∷ codes "len" ∷ codes "mode" ∷ codes "at" ∷ codes "to" ∷ []) d
+    then (in_ d >>= λ b. required (codes "start") whole d >>= λ s. required (codes "len") whole d >>= λ l. required (codes "mode") span_mode d >>= λ m. at d >>= λ v. to d >>= λ w. Some (Command.Span b s l m v w))
+    else None
+
 unfoldable pub by_word : List ℕ → Data → Option Command
 by_word word d =
     if bytes_eq word (codes "buffer") then buffer_command d
     else (if bytes_eq word (codes "edit") then edit_command d
     else (if bytes_eq word (codes "text") then text_command d
-    else None))
+    else (if bytes_eq word (codes "changes") then changes_command d
+    else (if bytes_eq word (codes "point") then point_command d
+    else (if bytes_eq word (codes "span") then span_command d
+    else None)))))
 
 -- the command that a value is
 unfoldable pub command_of : Data → Option Command

@@ -7,7 +7,10 @@ ghost use Rattle.serde_json.specs.View.{view, members_view, items_view};
 ghost use Rattle.serde_json.specs.Find.{get, as_str, as_array};
 ghost use Rattle.ed_script.specs.Fields as spec;
 
-use ed_base::{Name, OutOfMemory, Replace, ReplaceList, SharedList, Unit, Units};
+use ed_base::{
+    Name, OutOfMemory, PointMode, Replace, ReplaceList, SharedList, SpanMode, Unit, Units,
+    VersionNo,
+};
 use serde_json::{Map, Value};
 use std::alloc::Global;
 
@@ -77,6 +80,71 @@ pub fn whole(value: &Value) -> Option<u32>
     match value.as_u64() {
         None => None,
         Some(number) => u32::try_from(number).ok(),
+    }
+}
+
+/// The number under a key.
+pub fn whole_at(value: &Value, key: &str) -> Option<u32>
+    ensures { result ≡ spec.required key.now spec.whole (view value.now) }
+{
+    match value.get(key) {
+        None => None,
+        Some(found) => whole(found),
+    }
+}
+
+/// The version under a key that may be absent.
+pub fn version_at(value: &Value, key: &str) -> Option<Option<VersionNo>>
+    ensures { result ≡ spec.optional key.now spec.whole (view value.now) }
+{
+    match value.get(key) {
+        None => Some(None),
+        Some(found) => match whole(found) {
+            None => None,
+            Some(number) => Some(Some(VersionNo(number))),
+        },
+    }
+}
+
+fn point_mode(word: &str) -> Option<PointMode>
+    ensures { result ≡ spec.point_mode_of word.now }
+{
+    match word {
+        "positive" => Some(PointMode::Positive),
+        "negative" => Some(PointMode::Negative),
+        _ => None,
+    }
+}
+
+/// The tracking mode of a point under a key.
+pub fn point_mode_at(value: &Value, key: &str) -> Option<PointMode>
+    ensures { result ≡ spec.required key.now spec.point_mode (view value.now) }
+{
+    match text_at(value, key) {
+        None => None,
+        Some(word) => point_mode(word),
+    }
+}
+
+fn span_mode(word: &str) -> Option<SpanMode>
+    ensures { result ≡ spec.span_mode_of word.now }
+{
+    match word {
+        "exclusive" => Some(SpanMode::EdgeExclusive),
+        "inclusive" => Some(SpanMode::EdgeInclusive),
+        "positive" => Some(SpanMode::EdgePositive),
+        "negative" => Some(SpanMode::EdgeNegative),
+        _ => None,
+    }
+}
+
+/// The tracking mode of a span under a key.
+pub fn span_mode_at(value: &Value, key: &str) -> Option<SpanMode>
+    ensures { result ≡ spec.required key.now spec.span_mode (view value.now) }
+{
+    match text_at(value, key) {
+        None => None,
+        Some(word) => span_mode(word),
     }
 }
 

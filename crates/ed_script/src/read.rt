@@ -9,9 +9,12 @@ ghost use Rattle.ed_script.specs.Script.{value_of, line_command};
 ghost use Rattle.ed_script.specs.declared.bad.BadKind.{BadKind};
 
 use crate::bad::LineFault;
-use crate::fields::{has_only, name_at, replaces_at, text_at, units_at};
+use crate::fields::{
+    has_only, name_at, point_mode_at, replaces_at, span_mode_at, text_at, units_at, version_at,
+    whole_at,
+};
 use crate::kinds::Command;
-use ed_base::OutOfMemory;
+use ed_base::{OutOfMemory, VersionNo};
 use serde_json::Value;
 use std::alloc::Global;
 
@@ -60,6 +63,89 @@ fn text_command(alloc: Global, value: &Value) -> Result<Option<Command>, OutOfMe
     Ok(Some(Command::Text { buffer }))
 }
 
+#[tactic(auto, unfolding(crate::specs::Words::changes_command))]
+fn changes_command(alloc: Global, value: &Value) -> Result<Option<Command>, OutOfMemory>
+    ensures { IfOk result (λ o. o ≡ spec.changes_command (view value.now)) }
+{
+    if !has_only(value, &["do", "in", "from"]) {
+        return Ok(None);
+    }
+    let Some(buffer) = name_at(alloc, value, "in")? else {
+        return Ok(None);
+    };
+    let Some(from) = whole_at(value, "from") else {
+        return Ok(None);
+    };
+    let from = VersionNo(from);
+    Ok(Some(Command::Changes { buffer, from }))
+}
+
+#[tactic(auto, unfolding(crate::specs::Words::point_command))]
+fn point_command(alloc: Global, value: &Value) -> Result<Option<Command>, OutOfMemory>
+    ensures { IfOk result (λ o. o ≡ spec.point_command (view value.now)) }
+{
+    if !has_only(value, &["do", "in", "pos", "mode", "at", "to"]) {
+        return Ok(None);
+    }
+    let Some(buffer) = name_at(alloc, value, "in")? else {
+        return Ok(None);
+    };
+    let Some(pos) = whole_at(value, "pos") else {
+        return Ok(None);
+    };
+    let Some(mode) = point_mode_at(value, "mode") else {
+        return Ok(None);
+    };
+    let Some(at) = version_at(value, "at") else {
+        return Ok(None);
+    };
+    let Some(to) = version_at(value, "to") else {
+        return Ok(None);
+    };
+    Ok(Some(Command::Point {
+        buffer,
+        pos,
+        mode,
+        at,
+        to,
+    }))
+}
+
+#[tactic(auto, unfolding(crate::specs::Words::span_command))]
+fn span_command(alloc: Global, value: &Value) -> Result<Option<Command>, OutOfMemory>
+    ensures { IfOk result (λ o. o ≡ spec.span_command (view value.now)) }
+{
+    if !has_only(value, &["do", "in", "start", "len", "mode", "at", "to"]) {
+        return Ok(None);
+    }
+    let Some(buffer) = name_at(alloc, value, "in")? else {
+        return Ok(None);
+    };
+    let Some(start) = whole_at(value, "start") else {
+        return Ok(None);
+    };
+    let Some(len) = whole_at(value, "len") else {
+        return Ok(None);
+    };
+    let Some(mode) = span_mode_at(value, "mode") else {
+        return Ok(None);
+    };
+    let Some(at) = version_at(value, "at") else {
+        return Ok(None);
+    };
+    let Some(to) = version_at(value, "to") else {
+        return Ok(None);
+    };
+    Ok(Some(Command::Span {
+        buffer,
+        start,
+        len,
+        mode,
+        at,
+        to,
+    }))
+}
+
 #[tactic(auto, unfolding(crate::specs::Words::by_word))]
 fn by_word(alloc: Global, word: &str, value: &Value) -> Result<Option<Command>, OutOfMemory>
     ensures { IfOk result (λ o. o ≡ spec.by_word word.now (view value.now)) }
@@ -68,6 +154,9 @@ fn by_word(alloc: Global, word: &str, value: &Value) -> Result<Option<Command>, 
         "buffer" => buffer_command(alloc, value),
         "edit" => edit_command(alloc, value),
         "text" => text_command(alloc, value),
+        "changes" => changes_command(alloc, value),
+        "point" => point_command(alloc, value),
+        "span" => span_command(alloc, value),
         _ => Ok(None),
     }
 }

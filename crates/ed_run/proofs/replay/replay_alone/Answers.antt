@@ -1,4 +1,4 @@
-use Rattle.std.proofs.Common.{◌≡◌, ℕ, ◌+◌, ◌<◌, length, arith, refl, true, false}
+use Rattle.std.proofs.Common.{◌≡◌, arith, refl, true, false}
 use Rattle.ed_run.proofs.Replays.{played, forgotten, too_long}
 use Rattle.ed_run.proofs.replay.replay_alone.Goals as goal
 

@@ -1,4 +1,4 @@
-use Rattle.std.proofs.Common.{◌≡◌, Bool, true, false, sym}
+use Rattle.std.proofs.Common.{◌≡◌, true, false, sym}
 use Rattle.ed_script.proofs.Values.{value_of-some, value_of-none}
 use Rattle.ed_script.proofs.read.value_of_line.Goals as goal
 

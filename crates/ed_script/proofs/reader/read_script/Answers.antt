@@ -1,8 +1,8 @@
-use Rattle.std.proofs.Common.{◌≡◌, ℕ, ◌+◌, ◌-◌, ◌<◌, length, take, drop, arith, ap, length-drop, subst, sym, ◌∙◌, Ok, Err, IfOk}
+use Rattle.std.proofs.Common.{◌≡◌, ◌+◌, ◌-◌, length, arith, ap, length-drop, subst, sym, ◌∙◌, Err, IfOk}
 use Rattle.std.specs.Prelude.{nat_eq}
 use Rattle.std.proofs.lemmas.List.Quantifiers.{position-Some}
 use Rattle.ed_script.specs.declared.bad.BadKind.{BadKind}
-use Rattle.ed_script.specs.Script.{Script, script_of, line_command, with_commands, last_line, IsScript}
+use Rattle.ed_script.specs.Script.{Script, script_of, line_command, IsScript}
 use Rattle.ed_script.proofs.Unread.{unread-none, unread-ok, unread-bad}
 use Rattle.ed_script.proofs.reader.read_script.Goals as goal
 

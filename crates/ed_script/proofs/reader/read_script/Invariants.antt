@@ -1,4 +1,4 @@
-use Rattle.std.proofs.Common.{◌≡◌, ℕ, ◌+◌, ◌≤◌, ◌^◌, length}
+use Rattle.std.proofs.Common.{◌≡◌, ◌+◌, ◌≤◌, ◌^◌, length}
 use Rattle.ed_script.specs.Script.{script_of, unread, with_commands}
 use Rattle.ed_script.proofs.reader.read_script.Given as goal
 

@@ -1,5 +1,4 @@
-use Rattle.std.proofs.Common.{◌≡◌, ℕ, ◌-◌, ◌<◌, length, arith}
-use Rattle.ed_machine.specs.State.{text_now}
+use Rattle.std.proofs.Common.{◌≡◌, ◌-◌, length, arith}
 use Rattle.ed_run.proofs.Following.{get-is, lengths, last-is-short}
 use Rattle.ed_run.proofs.base.Base.text.Goals as goal
 
