@@ -1,8 +1,11 @@
 //! What is told, what is answered, and the entries of a history. Plain values.
 #![tactic(auto)]
 
-use ed_base::{BufferNo, Changes, Refusal, SeatNo, SharedUnits, Span, VersionList, VersionNo};
+use ed_base::{
+    BufferNo, Changes, LineList, NumberList, Refusal, RegionNo, SeatNo, Span, VersionList,
+};
 use ed_script::Command;
+use ed_version::Snapshot;
 
 /// What happens at a seat.
 #[derive(Drop)]
@@ -15,31 +18,29 @@ pub enum Event {
 #[derive(Drop)]
 pub enum Reply {
     /// The new buffer's number.
-    Made {
-        buffer: BufferNo,
-    },
+    Made { buffer: BufferNo },
     /// The versions that were made.
-    Edited {
-        versions: VersionList,
-    },
-    /// A version of a buffer, with its units.
-    Text {
-        buffer: BufferNo,
-        version: VersionNo,
-        units: SharedUnits,
-    },
+    Edited { versions: VersionList },
+    /// The new region's number.
+    Region { region: RegionNo },
+    /// The thing was removed.
+    Removed,
+    /// The region of lowest number that denies.
+    Denied { region: RegionNo },
+    /// No region denies.
+    Free,
+    /// The text of a version.
+    Text { snapshot: Snapshot },
+    /// The lines of a version, from the first on.
+    Lines { lines: LineList },
     /// What leads from a version to the next.
-    Changes {
-        changes: Changes,
-    },
+    Changes { changes: Changes },
+    /// The number that each version repeats, from version 0 on.
+    Versions { numbers: NumberList },
     /// Where a point goes.
-    At {
-        pos: u32,
-    },
+    At { pos: u32 },
     /// Where a span goes.
-    Span {
-        span: Span,
-    },
+    Span { span: Span },
     /// Why nothing was done.
     Refused(Refusal),
 }

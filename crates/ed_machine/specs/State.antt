@@ -1,12 +1,17 @@
--- The state: the names of all buffers, and each buffer with its texts by version.
-use Rattle.std.specs.Prelude.{ℕ, ◌-◌, List, [], ◌∷◌, ◌++◌, length, slice_get, slice_set, position, Option, unwrap_or}
+-- The state: the names of all buffers, and each buffer with its versions.
+use Rattle.std.specs.Prelude.{ℕ, List, [], ◌∷◌, ◌++◌, slice_get, slice_set, position, Option, unwrap_or}
 use Rattle.std.specs.Str.{bytes_eq}
 use Rattle.ed_base.specs.ChangeList.{ChangeList}
+use Rattle.ed_base.specs.Denial.{Region}
+use Rattle.ed_version.specs.declared.Version.{Version}
+use Rattle.ed_version.specs.Chain as chain
 
--- a buffer: its texts by version, and the change list of each to the next
+-- A buffer: its versions by number, and the change list of each to the next. Its live read-only regions by number, and how many numbers were given.
 pub record Buffer : Type 0 where
-  pub texts : List (List ℕ)
+  pub versions : List Version
   pub changes : List ChangeList
+  pub regions : List Region
+  pub regions_given : ℕ
 
 -- the buffers by number, and their names
 pub record State : Type 0 where
@@ -29,23 +34,27 @@ number s name = unwrap_or (number_of s name) 0
 -- ---- buffers
 
 abbrev pub no_buffer : Buffer
-no_buffer = record { texts = []; changes = [] }
+no_buffer = record { versions = []; changes = []; regions = []; regions_given = 0 }
 
 abbrev pub buffer : State → ℕ → Buffer
 buffer s b = unwrap_or (slice_get s.buffers b) no_buffer
 
 -- the current version, and its text
 abbrev pub now : Buffer → ℕ
-now x = length x.texts - 1
+now x = chain.now x.versions
 
 abbrev pub text_now : Buffer → List ℕ
-text_now x = unwrap_or (slice_get x.texts (now x)) []
+text_now x = chain.text_now x.versions
+
+-- the text of a version that is there
+abbrev pub text_at : Buffer → ℕ → List ℕ
+text_at x v = chain.text_at x.versions v
 
 -- ---- changing the state
 
 -- a buffer of one version
 abbrev pub new_buffer : List ℕ → Buffer
-new_buffer text = record { texts = text ∷ []; changes = [] }
+new_buffer text = record { versions = chain.opening text; changes = []; regions = []; regions_given = 0 }
 
 -- with one more buffer
 abbrev pub with_new : State → List ℕ → Buffer → State

@@ -19,12 +19,14 @@ fn command(line: &mut Line, command: &Command) -> Result<(), OutOfMemory>
 {
     match command {
         Command::Buffer { name, text: _ } => named(line, "buffer ", name),
-        Command::Edit {
-            buffer,
-            replaces: _,
-        } => named(line, "edit ", buffer),
-        Command::Text { buffer } => named(line, "text ", buffer),
+        Command::Edit { buffer, .. } => named(line, "edit ", buffer),
+        Command::Region { buffer, .. } => named(line, "region ", buffer),
+        Command::Unregion { buffer, .. } => named(line, "unregion ", buffer),
+        Command::Readonly { buffer, .. } => named(line, "readonly ", buffer),
+        Command::Text { buffer, .. } => named(line, "text ", buffer),
+        Command::Lines { buffer, .. } => named(line, "lines ", buffer),
         Command::Changes { buffer, from: _ } => named(line, "changes ", buffer),
+        Command::Versions { buffer } => named(line, "versions ", buffer),
         Command::Point { buffer, .. } => named(line, "point ", buffer),
         Command::Span { buffer, .. } => named(line, "span ", buffer),
     }

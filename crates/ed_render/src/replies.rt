@@ -1,13 +1,15 @@
 //! How replies are printed.
-ghost use Rattle.std.specs.Prelude.{◌≡◌, ◌++◌, codes, decimal, OnOk};
+ghost use Rattle.std.specs.Prelude.{◌≡◌, ◌++◌, codes, decimal, IfOk, OnOk};
 ghost use Rattle.ed_units.specs.Quoted.{quoted};
-ghost use Rattle.ed_render.specs.Replies.{version_text, each_version, versions_text, change_text, each_change, changes_text, reply_text};
+ghost use Rattle.ed_render.specs.Replies.{version_text, each_version, versions_text, change_text, each_change, changes_text, line_span_text, each_line, lines_text, each_number, numbers_text, reply_text};
 
 use crate::push::{Line, number, word};
 use crate::refusals::{refusal, span};
-use ed_base::{BufferNo, Change, OutOfMemory, Unit, VersionNo};
+use ed_base::{BufferNo, Change, LineSpan, OutOfMemory, Span, Units, VersionNo};
 use ed_entry::Reply;
+use ed_text::Text;
 use ed_units::write_quoted;
+use ed_version::Snapshot;
 use std::alloc::Global;
 
 fn version(
@@ -53,18 +55,77 @@ fn edited(
     }
 }
 
-fn text(
-    alloc: Global,
-    line: &mut Line,
-    buffer: BufferNo,
-    at: VersionNo,
-    units: &[Unit],
-) -> Result<(), OutOfMemory>
-    ensures { OnOk result (line.new.items ≡ line.old.items ++ (version_text buffer at ++ (codes " " ++ quoted units.now))) }
+/// The units of a text, in one piece.
+fn units_of<T: Text>(alloc: Global, text: &T) -> Result<Units, OutOfMemory>
+    ensures { IfOk result (λ units. units ≡ T.units text.now) }
 {
-    version(alloc, line, buffer, at)?;
+    let mut units = Units::of(Vec::with_capacity(alloc, text.len() as usize)?);
+    let whole = Span {
+        start: 0,
+        len: text.len(),
+    };
+    text.copy_out(whole, &mut units)?;
+    Ok(units)
+}
+
+fn text(alloc: Global, line: &mut Line, snapshot: &Snapshot) -> Result<(), OutOfMemory>
+    ensures { OnOk result (line.new.items ≡ line.old.items ++ (version_text snapshot.now.buffer snapshot.now.version ++ (codes " " ++ quoted snapshot.now.text))) }
+{
+    version(alloc, line, snapshot.buffer, snapshot.version)?;
     word(line, " ")?;
-    write_quoted(units, line)
+    let units = units_of(alloc, &snapshot.text)?;
+    write_quoted(units.as_slice(), line)
+}
+
+fn line_span(alloc: Global, line: &mut Line, at: LineSpan) -> Result<(), OutOfMemory>
+    ensures { OnOk result (line.new.items ≡ line.old.items ++ line_span_text at) }
+{
+    span(alloc, line, at.span)?;
+    number(alloc, line, u64::from(at.break_len))
+}
+
+fn each_line_of(alloc: Global, line: &mut Line, lines: &[LineSpan]) -> Result<(), OutOfMemory>
+    ensures { OnOk result (line.new.items ≡ line.old.items ++ each_line lines.now) }
+{
+    for item in lines {
+        word(line, " ")?;
+        line_span(alloc, line, *item)?;
+    }
+    Ok(())
+}
+
+fn lines(alloc: Global, line: &mut Line, lines: &[LineSpan]) -> Result<(), OutOfMemory>
+    ensures { OnOk result (line.new.items ≡ line.old.items ++ lines_text lines.now) }
+{
+    match lines.split_first() {
+        None => Ok(()),
+        Some((first, others)) => {
+            line_span(alloc, line, *first)?;
+            each_line_of(alloc, line, others)
+        }
+    }
+}
+
+fn each_number_of(alloc: Global, line: &mut Line, numbers: &[u32]) -> Result<(), OutOfMemory>
+    ensures { OnOk result (line.new.items ≡ line.old.items ++ each_number numbers.now) }
+{
+    for item in numbers {
+        word(line, " ")?;
+        number(alloc, line, u64::from(*item))?;
+    }
+    Ok(())
+}
+
+fn numbers(alloc: Global, line: &mut Line, numbers: &[u32]) -> Result<(), OutOfMemory>
+    ensures { OnOk result (line.new.items ≡ line.old.items ++ numbers_text numbers.now) }
+{
+    match numbers.split_first() {
+        None => Ok(()),
+        Some((first, others)) => {
+            number(alloc, line, u64::from(*first))?;
+            each_number_of(alloc, line, others)
+        }
+    }
 }
 
 fn change(alloc: Global, line: &mut Line, change: &Change) -> Result<(), OutOfMemory>
@@ -101,18 +162,11 @@ fn changes(alloc: Global, line: &mut Line, changes: &[Change]) -> Result<(), Out
     }
 }
 
-fn at(alloc: Global, line: &mut Line, place: u32) -> Result<(), OutOfMemory>
-    ensures { OnOk result (line.new.items ≡ line.old.items ++ (codes "at " ++ decimal place)) }
+fn numbered(alloc: Global, line: &mut Line, text: &str, of: u32) -> Result<(), OutOfMemory>
+    ensures { OnOk result (line.new.items ≡ line.old.items ++ (text.now ++ decimal of)) }
 {
-    word(line, "at ")?;
-    number(alloc, line, u64::from(place))
-}
-
-fn made(alloc: Global, line: &mut Line, buffer: BufferNo) -> Result<(), OutOfMemory>
-    ensures { OnOk result (line.new.items ≡ line.old.items ++ (codes "made " ++ decimal buffer)) }
-{
-    word(line, "made ")?;
-    number(alloc, line, u64::from(buffer.0))
+    word(line, text)?;
+    number(alloc, line, u64::from(of))
 }
 
 /// Puts a reply at the end of a line.
@@ -121,15 +175,17 @@ pub fn reply(alloc: Global, line: &mut Line, reply: &Reply) -> Result<(), OutOfM
     ensures { OnOk result (line.new.items ≡ line.old.items ++ reply_text reply.now) }
 {
     match reply {
-        Reply::Made { buffer } => made(alloc, line, *buffer),
+        Reply::Made { buffer } => numbered(alloc, line, "made ", buffer.0),
         Reply::Edited { versions } => edited(alloc, line, versions.as_slice()),
-        Reply::Text {
-            buffer,
-            version,
-            units,
-        } => text(alloc, line, *buffer, *version, units.as_slice()),
+        Reply::Region { region } => numbered(alloc, line, "region ", region.0),
+        Reply::Removed => word(line, "removed"),
+        Reply::Denied { region } => numbered(alloc, line, "denied ", region.0),
+        Reply::Free => word(line, "free"),
+        Reply::Text { snapshot } => text(alloc, line, snapshot),
+        Reply::Lines { lines: list } => lines(alloc, line, list.as_slice()),
         Reply::Changes { changes: list } => changes(alloc, line, list.as_slice()),
-        Reply::At { pos } => at(alloc, line, *pos),
+        Reply::Versions { numbers: list } => numbers(alloc, line, list.as_slice()),
+        Reply::At { pos } => numbered(alloc, line, "at ", *pos),
         Reply::Span { span: place } => span(alloc, line, *place),
         Reply::Refused(cause) => refusal(alloc, line, *cause),
     }

@@ -1,5 +1,6 @@
 -- The history of one seat that works alone is legal, and so is each beginning of it.
 use Rattle.std.proofs.Common.{◌≡◌, List, [], ◌∷◌, ◌++◌, refl, sym, subst}
+use Rattle.ed_base.specs.Hooks.{HookTable}
 use Rattle.ed_script.specs.declared.Command.{Command}
 use Rattle.ed_entry.specs.declared.Entry.{Entry}
 use Rattle.ed_machine.specs.State.{State, empty_state}
@@ -8,21 +9,22 @@ use Rattle.ed_machine.specs.History.{IsLegalFrom, IsLegal, alone_from, alone, af
 use Rattle.ed_run.specs.declared.report.Status.{Status}
 use Rattle.ed_run.specs.Calls.{DoneAs}
 
-alone-legal : (s : State) (cs : List Command) → IsLegalFrom s (alone_from s cs)
-alone-legal s [] = tt
-alone-legal s (c ∷ cs) = (refl, alone-legal (after s c) cs)
+module _ (hooks : HookTable) where
+  alone-legal : (s : State) (cs : List Command) → IsLegalFrom hooks s (alone_from hooks s cs)
+  alone-legal s [] = tt
+  alone-legal s (c ∷ cs) = (refl, alone-legal (after hooks s c) cs)
 
-beginning : (s : State) (xs ys : List Entry) → IsLegalFrom s (xs ++ ys) → IsLegalFrom s xs
-beginning s [] ys legal = tt
-beginning s (x ∷ xs) ys legal = (legal.0, beginning (step s x.event).state xs ys legal.1)
+  beginning : (s : State) (xs ys : List Entry) → IsLegalFrom hooks s (xs ++ ys) → IsLegalFrom hooks s xs
+  beginning s [] ys legal = tt
+  beginning s (x ∷ xs) ys legal = (legal.0, beginning (step hooks s x.event).state xs ys legal.1)
 
-same : (xs ys : List Entry) → xs ≡ ys → IsLegal ys → IsLegal xs
-same xs ys e legal = let P : List Entry → Type 0 = IsLegal in subst P (sym e) legal
+  same : (xs ys : List Entry) → xs ≡ ys → IsLegal hooks ys → IsLegal hooks xs
+  same xs ys e legal = let P : List Entry → Type 0 = IsLegal hooks in subst P (sym e) legal
 
-pub legal_done : (status : Status) (entries : List Entry) (cs : List Command) → DoneAs status entries (alone cs) → IsLegal entries
-legal_done Status.Done entries cs done = same entries (alone cs) done (alone-legal empty_state cs)
-legal_done Status.Usage entries cs done = same entries [] done tt
-legal_done (Status.BadScript line kind) entries cs done = same entries (alone cs) done (alone-legal empty_state cs)
-legal_done Status.ReadFault entries cs done = same entries [] done tt
-legal_done Status.WriteFault entries cs done = same entries (alone cs) done (alone-legal empty_state cs)
-legal_done Status.Memory entries cs done = beginning empty_state entries done.0 (let P : List Entry → Type 0 = IsLegal in subst P (sym done.1) (alone-legal empty_state cs))
+  pub legal_done : (status : Status) (entries : List Entry) (cs : List Command) → DoneAs status entries (alone hooks cs) → IsLegal hooks entries
+  legal_done Status.Done entries cs done = same entries (alone hooks cs) done (alone-legal empty_state cs)
+  legal_done Status.Usage entries cs done = same entries [] done tt
+  legal_done (Status.BadScript line kind) entries cs done = same entries (alone hooks cs) done (alone-legal empty_state cs)
+  legal_done Status.ReadFault entries cs done = same entries [] done tt
+  legal_done Status.WriteFault entries cs done = same entries (alone hooks cs) done (alone-legal empty_state cs)
+  legal_done Status.Memory entries cs done = beginning empty_state entries done.0 (let P : List Entry → Type 0 = IsLegal hooks in subst P (sym done.1) (alone-legal empty_state cs))

@@ -1,9 +1,10 @@
-pub mod Following
 pub mod Names
 pub mod Edits
 pub mod Moving
 pub mod Legal
 pub mod Replays
 pub mod Rendered
-pub mod Linking
+pub mod Between
 pub mod Answering
+pub mod Removing
+pub mod Planned

@@ -1,6 +1,7 @@
 -- Names that aren't taken.
-use Rattle.std.proofs.Common.{◌≡◌, ℕ, ◌+◌, Bool, true, false, List, [], ◌∷◌, ◌++◌, refl, sym, ◌∙◌, ap}
-use Rattle.std.specs.Prelude.{is_some, position}
+use Rattle.std.proofs.Common.{◌≡◌, ℕ, ◌+◌, ◌^◌, length, Bool, true, false, List, [], ◌∷◌, ◌++◌, refl, sym, ◌∙◌, ap}
+use Rattle.std.specs.Prelude.{is_some, position, nat_lt}
+use Rattle.ed_base.specs.Hooks.{HookTable}
 use Rattle.std.specs.List.{list_any, position_from}
 use Rattle.std.specs.Str.{bytes_eq}
 use Rattle.std.proofs.lemmas.Iterator.Adapters.{position_from-zero}
@@ -24,6 +25,6 @@ some-position p xs = ap is_some (position_from-zero p xs) ∙ some-from p 0 xs
 pub new-key : (names : List (List ℕ)) (name : List ℕ) → is_some (position (bytes_eq name) names) ≡ false → insert_key bytes_eq names name ≡ names ++ name ∷ []
 new-key names name new = rw (sym (some-position (bytes_eq name) names) ∙ new) refl
 
-pub made : (s : State) (name text : List ℕ) → is_some (number_of s name) ≡ false → (step s (Event.Told (Command.Buffer name text))).state ≡ with_new s name (new_buffer text)
+pub made : (hooks : HookTable) (s : State) (name text : List ℕ) → is_some (number_of s name) ≡ false → nat_lt (2 ^ 22) (length text) ≡ false → (step hooks s (Event.Told (Command.Buffer name text))).state ≡ with_new s name (new_buffer text)
 unfolding step tests accepted
-made s name text new = rw new refl
+made hooks s name text new short = rw (new, short) refl

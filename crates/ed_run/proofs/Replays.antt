@@ -4,6 +4,7 @@ use Rattle.std.proofs.KnownBytes.{Appends-nil}
 use Rattle.std.proofs.lemmas.Option.{none-some}
 use Rattle.std.proofs.lemmas.Bool.{lt-ltb}
 use Rattle.ed_io.specs.Bytes.{Took, NoneLeft}
+use Rattle.ed_base.specs.Hooks.{HookTable}
 use Rattle.ed_script.specs.declared.BadLine.{BadLine}
 use Rattle.ed_script.specs.Script.{script_of}
 use Rattle.ed_entry.specs.declared.Entry.{Entry}
@@ -53,12 +54,12 @@ unmet read ended met e none = true-false (sym (met (ap (λ b. (script_of read b)
 
 -- ---- the whole
 
-pub played : (c : Call) (read : List ℕ) (ended : Bool) → Took c.left_before read c.left_after → (ended ≡ true → NoneLeft c.left_after) → ((script_of read ended).bad ≡ None → ended ≡ true) → Plays read ended c.held_before c.held_after (WriteFailed c) c.status c.entries → Replays c
-played c read ended took end met plays = record {
+pub played : (hooks : HookTable) (c : Call) (read : List ℕ) (ended : Bool) → Took c.left_before read c.left_after → (ended ≡ true → NoneLeft c.left_after) → ((script_of read ended).bad ≡ None → ended ≡ true) → Plays hooks read ended c.held_before c.held_after (WriteFailed c) c.status c.entries → Replays hooks c
+played hooks c read ended took end met plays = record {
   read = read;
   ended = ended;
   took = took;
-  legal = legal_done c.status c.entries (script_of read ended).commands plays.done;
+  legal = legal_done hooks c.status c.entries (script_of read ended).commands plays.done;
   lines = plays.lines;
   commands = plays.done;
   end_met = end;
@@ -68,8 +69,8 @@ played c read ended took end met plays = record {
   complete = λ e unread unwritten. usually (script_of read ended).bad c.status Status.Done (WriteFailed c) (sym (ap ending e)) unwritten plays.ends;
 }
 
-pub unread : (c : Call) (read : List ℕ) → Took c.left_before read c.left_after → ReadFailed c → c.held_after ≡ c.held_before → c.status ≡ Status.ReadFault → c.entries ≡ [] → Replays c
-unread c read took failed same fault none = record {
+pub unread : (hooks : HookTable) (c : Call) (read : List ℕ) → Took c.left_before read c.left_after → ReadFailed c → c.held_after ≡ c.held_before → c.status ≡ Status.ReadFault → c.entries ≡ [] → Replays hooks c
+unread hooks c read took failed same fault none = record {
   read = read;
   ended = false;
   took = took;
@@ -83,14 +84,14 @@ unread c read took failed same fault none = record {
   complete = λ e unfailed unwritten. absurd (unfailed failed);
 }
 
-pub forgotten : (c : Call) (read : List ℕ) → Took c.left_before read c.left_after → c.held_after ≡ c.held_before → c.status ≡ Status.Memory → c.entries ≡ [] → Replays c
-forgotten c read took same memory none = record {
+pub forgotten : (hooks : HookTable) (c : Call) (read : List ℕ) → Took c.left_before read c.left_after → c.held_after ≡ c.held_before → c.status ≡ Status.Memory → c.entries ≡ [] → Replays hooks c
+forgotten hooks c read took same memory none = record {
   read = read;
   ended = false;
   took = took;
   legal = rw none tt;
   lines = rw (memory, same) (front_of_none c.held_before (render c.entries));
-  commands = rw (memory, none) (alone (script_of read false).commands, refl);
+  commands = rw (memory, none) (alone hooks (script_of read false).commands, refl);
   end_met = λ e. absurd (true-false (sym e));
   end_not_met = λ e. inr (inl memory);
   cause = rw memory tt;

@@ -1,6 +1,7 @@
 -- The main theorem.
 use Rattle.std.specs.Prelude.{◌≡◌, ◌≢◌, ◌⊎◌, ℕ, Bool, true, false, List, [], Option, Some, None}
 use Rattle.ed_io.specs.Bytes.{Took, NoneLeft}
+use Rattle.ed_base.specs.Hooks.{HookTable}
 use Rattle.ed_script.specs.declared.BadLine.{BadLine}
 use Rattle.ed_script.specs.Script.{script_of}
 use Rattle.ed_machine.specs.History.{IsLegal, alone}
@@ -17,16 +18,16 @@ HasCause c ended bad Status.WriteFault = WriteFailed c
 HasCause c ended bad Status.Memory = Unit {0}
 HasCause c ended bad Status.Usage = ⊥
 
--- The replay of a script: there are the bytes read, and whether the input was read to its end, such that all this holds.
-pub record Replays (c : Call) : Type 0 where
+-- The replay of a script, with the rules of these hooks: there are the bytes read, and whether the input was read to its end, such that all this holds.
+pub record Replays (hooks : HookTable) (c : Call) : Type 0 where
   pub read : List ℕ
   pub ended : Bool
   pub took : Took c.left_before read c.left_after
   -- the entries are a legal history, and what was written is their lines
-  pub legal : IsLegal c.entries
+  pub legal : IsLegal hooks c.entries
   pub lines : WrittenAs c.status (render c.entries) c.held_before c.held_after
   -- they are those of the commands of the bytes read, told one after another
-  pub commands : DoneAs c.status c.entries (alone (script_of read ended).commands)
+  pub commands : DoneAs c.status c.entries (alone hooks (script_of read ended).commands)
   -- when the input was read to its end
   pub end_met : ended ≡ true → NoneLeft c.left_after
   pub end_not_met : ended ≡ false → ReadFailed c ⊎ (c.status ≡ Status.Memory) ⊎ ((script_of read false).bad ≢ None)
@@ -49,6 +50,6 @@ pub data Asked : Type 0 where
   nothing_known : Asked
 
 -- The main theorem. Words other than the one word `replay` are wrong, and then nothing is done.
-abbrev pub Headline : Asked → Call → Type 0
-Headline replay c = (c.status ≢ Status.Usage) × Replays c
-Headline nothing_known c = (c.status ≡ Status.Usage) × DidNothing c
+abbrev pub Headline : HookTable → Asked → Call → Type 0
+Headline hooks replay c = (c.status ≢ Status.Usage) × Replays hooks c
+Headline hooks nothing_known c = (c.status ≡ Status.Usage) × DidNothing c

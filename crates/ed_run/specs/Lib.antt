@@ -1,4 +1,4 @@
-pub mod Versions
+pub mod Seeing
 pub mod Editing
 pub mod Reading
 pub mod Calls

@@ -1,5 +1,6 @@
 -- The parts of a replay, after the input was read.
 use Rattle.std.specs.Prelude.{◌≡◌, ◌⊎◌, ℕ, Bool, List, Option, Some, None}
+use Rattle.ed_base.specs.Hooks.{HookTable}
 use Rattle.ed_script.specs.declared.BadLine.{BadLine}
 use Rattle.ed_script.specs.Script.{script_of}
 use Rattle.ed_entry.specs.declared.Entry.{Entry}
@@ -24,5 +25,5 @@ pub record Performs (all : List Entry) (before after : Option (List ℕ)) (usual
   pub ends : EndsAs usual failed status
 
 -- the same for a script of these bytes
-abbrev pub Plays : List ℕ → Bool → Option (List ℕ) → Option (List ℕ) → Type 0 → Status → List Entry → Type 0
-Plays bytes ended before after failed status entries = Performs (alone (script_of bytes ended).commands) before after (ending (script_of bytes ended).bad) failed status entries
+abbrev pub Plays : HookTable → List ℕ → Bool → Option (List ℕ) → Option (List ℕ) → Type 0 → Status → List Entry → Type 0
+Plays hooks bytes ended before after failed status entries = Performs (alone hooks (script_of bytes ended).commands) before after (ending (script_of bytes ended).bad) failed status entries

@@ -3,15 +3,19 @@ ghost use Rattle.std.specs.Prelude.{◌≡◌, ◌↔◌, ◌-◌, ◌<◌, ◌�
 ghost use Rattle.std.specs.Str.{bytes_eq};
 ghost use Rattle.ed_script.specs.declared.Command.{Command as Told};
 ghost use Rattle.ed_machine.specs.State.{empty_state, number_of, with_new};
-ghost use Rattle.ed_machine.specs.Step.{step};
+ghost use Rattle.ed_machine.specs.Step.{step, span_of};
+ghost use Rattle.ed_callbacks.specs.HookLists.{hook_table};
 ghost use Rattle.ed_entry.specs.declared.Event.{Event as Happening};
 
-use crate::base::Base;
+use crate::document::Document;
 use ed_base::{
-    BufferNo, Name, OutOfMemory, PointMode, Refusal, ReplaceList, Span, SpanMode, Unit, VersionNo,
+    BufferNo, EdgeMode, Name, OutOfMemory, PointMode, Refusal, RegionNo, ReplaceList, Span,
+    SpanHow, SpanMode, Unit, VersionNo, Which,
 };
+use ed_callbacks::Hooks;
 use ed_entry::{Event, Reply};
 use ed_script::Command;
+use ed_text::MOST_UNITS;
 use indexmap::IndexSet;
 use std::alloc::Global;
 use std::marker::Model;
@@ -20,7 +24,7 @@ use std::marker::Model;
 #[derive(Drop)]
 pub struct Editor {
     names: IndexSet<Name>,
-    buffers: Vec<Base>,
+    buffers: Vec<Document>,
 }
 
 impl Model for Editor {
@@ -44,6 +48,12 @@ fn add_name(names: &mut IndexSet<Name>, name: Name) -> Result<(), OutOfMemory>
     Ok(())
 }
 
+fn span_of(start: u32, len: u32) -> Span
+    ensures { result ≡ span_of start len }
+{
+    Span { start, len }
+}
+
 impl Editor {
     /// The editor without buffers.
     pub fn new(alloc: Global) -> Editor
@@ -63,15 +73,15 @@ impl Editor {
     }
 
     /// One more buffer, which has the next number.
-    fn add(&mut self, name: Name, base: Base) -> Result<(), OutOfMemory>
+    fn add(&mut self, name: Name, document: Document) -> Result<(), OutOfMemory>
         requires is_new { is_some (number_of self.old name) ≡ false }
         requires room { length self.old.buffers < 2 ^ 32 - 1 }
-        ensures ok { OnOk result (self.new ≡ with_new self.old name base) }
+        ensures ok { OnOk result (self.new ≡ with_new self.old name document) }
         ensures err { OnErr result (self.new ≡ self.old) }
     {
         self.buffers.reserve(1)?;
         add_name(&mut self.names, name)?;
-        self.buffers.push_reserved(base);
+        self.buffers.push_reserved(document);
         Ok(())
     }
 
@@ -91,50 +101,92 @@ impl Editor {
 
     /// Makes a base buffer, unless its name is taken.
     #[tactic(auto, using(crate::proofs::Names::made), unfolding(ed_machine::specs::Step::step, ed_machine::specs::Step::tests, ed_machine::specs::Step::accepted))]
-    fn make(&mut self, alloc: Global, name: &Name, text: &[Unit]) -> Result<Reply, OutOfMemory>
-        ensures reply { IfOk result (λ r. r ≡ (step self.old (Happening.Told (Told.Buffer name.now text.now))).reply) }
-        ensures state { OnOk result (self.new ≡ (step self.old (Happening.Told (Told.Buffer name.now text.now))).state) }
+    fn make(
+        &mut self,
+        alloc: Global,
+        hooks: &Hooks,
+        name: &Name,
+        text: &[Unit],
+    ) -> Result<Reply, OutOfMemory>
+        ensures reply { IfOk result (λ r. r ≡ (step (hook_table hooks.now) self.old (Happening.Told (Told.Buffer name.now text.now))).reply) }
+        ensures state { OnOk result (self.new ≡ (step (hook_table hooks.now) self.old (Happening.Told (Told.Buffer name.now text.now))).state) }
         ensures err { OnErr result (self.new ≡ self.old) }
     {
         if self.number_of(name).is_some() {
             return Ok(Reply::Refused(Refusal::NameTaken));
         }
+        if text.len() > MOST_UNITS as usize {
+            let which = Which::Units;
+            let count = text.len() as u64;
+            return Ok(Reply::Refused(Refusal::Limit { which, count }));
+        }
         if self.is_full() {
             return Err(OutOfMemory);
         }
         let buffer = self.next_number();
-        self.add(name.share()?, Base::new(alloc, text)?)?;
+        self.add(name.share()?, Document::new(alloc, buffer, text)?)?;
         Ok(Reply::Made { buffer })
     }
 
-    /// The text of a buffer.
+    /// The text of a version of a buffer.
     #[tactic(auto, unfolding(ed_machine::specs::Step::step, ed_machine::specs::Step::tests, ed_machine::specs::Step::accepted))]
-    fn text(&self, name: &Name) -> Result<Reply, OutOfMemory>
-        ensures reply { IfOk result (λ r. r ≡ (step self.now (Happening.Told (Told.Text name.now))).reply) }
-        ensures same { OnOk result (self.now ≡ (step self.now (Happening.Told (Told.Text name.now))).state) }
+    fn text(&self, hooks: &Hooks, name: &Name, at: Option<VersionNo>) -> Result<Reply, OutOfMemory>
+        ensures reply { IfOk result (λ r. r ≡ (step (hook_table hooks.now) self.now (Happening.Told (Told.Text name.now at))).reply) }
+        ensures same { OnOk result (self.now ≡ (step (hook_table hooks.now) self.now (Happening.Told (Told.Text name.now at))).state) }
     {
         let Some(number) = self.number_of(name) else {
             return Ok(Reply::Refused(Refusal::NoBuffer));
         };
-        let base = &self.buffers[number];
-        Ok(Reply::Text {
-            buffer: BufferNo(number as u32),
-            version: base.version(),
-            units: base.text().share()?,
-        })
+        let document = &self.buffers[number];
+        let version = document.version_or_now(at);
+        document.snapshot(BufferNo(number as u32), version)
+    }
+
+    /// The lines of a version of a buffer.
+    #[tactic(auto, unfolding(ed_machine::specs::Step::step, ed_machine::specs::Step::tests, ed_machine::specs::Step::accepted))]
+    fn lines(
+        &self,
+        alloc: Global,
+        hooks: &Hooks,
+        name: &Name,
+        at: Option<VersionNo>,
+    ) -> Result<Reply, OutOfMemory>
+        ensures reply { IfOk result (λ r. r ≡ (step (hook_table hooks.now) self.now (Happening.Told (Told.Lines name.now at))).reply) }
+        ensures same { OnOk result (self.now ≡ (step (hook_table hooks.now) self.now (Happening.Told (Told.Lines name.now at))).state) }
+    {
+        let Some(number) = self.number_of(name) else {
+            return Ok(Reply::Refused(Refusal::NoBuffer));
+        };
+        let document = &self.buffers[number];
+        let version = document.version_or_now(at);
+        document.lines(alloc, version)
+    }
+
+    /// The number that each version of a buffer repeats.
+    #[tactic(auto, unfolding(ed_machine::specs::Step::step, ed_machine::specs::Step::tests, ed_machine::specs::Step::accepted))]
+    fn versions(&self, alloc: Global, hooks: &Hooks, name: &Name) -> Result<Reply, OutOfMemory>
+        ensures reply { IfOk result (λ r. r ≡ (step (hook_table hooks.now) self.now (Happening.Told (Told.Versions name.now))).reply) }
+        ensures same { OnOk result (self.now ≡ (step (hook_table hooks.now) self.now (Happening.Told (Told.Versions name.now))).state) }
+    {
+        let Some(number) = self.number_of(name) else {
+            return Ok(Reply::Refused(Refusal::NoBuffer));
+        };
+        let document = &self.buffers[number];
+        let numbers = document.reiterated_numbers(alloc)?;
+        Ok(Reply::Versions { numbers })
     }
 
     /// What leads from a version of a buffer to the next.
     #[tactic(auto, unfolding(ed_machine::specs::Step::step, ed_machine::specs::Step::tests, ed_machine::specs::Step::accepted))]
-    fn changes(&self, name: &Name, from: VersionNo) -> Result<Reply, OutOfMemory>
-        ensures reply { IfOk result (λ r. r ≡ (step self.now (Happening.Told (Told.Changes name.now from))).reply) }
-        ensures same { OnOk result (self.now ≡ (step self.now (Happening.Told (Told.Changes name.now from))).state) }
+    fn changes(&self, hooks: &Hooks, name: &Name, from: VersionNo) -> Result<Reply, OutOfMemory>
+        ensures reply { IfOk result (λ r. r ≡ (step (hook_table hooks.now) self.now (Happening.Told (Told.Changes name.now from))).reply) }
+        ensures same { OnOk result (self.now ≡ (step (hook_table hooks.now) self.now (Happening.Told (Told.Changes name.now from))).state) }
     {
         let Some(number) = self.number_of(name) else {
             return Ok(Reply::Refused(Refusal::NoBuffer));
         };
-        let base = &self.buffers[number];
-        let reply = base.changes_from(from.0)?;
+        let document = &self.buffers[number];
+        let reply = document.changes_from(from.0)?;
         Ok(reply)
     }
 
@@ -142,42 +194,44 @@ impl Editor {
     #[tactic(auto, unfolding(ed_machine::specs::Step::step, ed_machine::specs::Step::tests, ed_machine::specs::Step::accepted))]
     fn point(
         &self,
+        hooks: &Hooks,
         name: &Name,
         pos: u32,
         mode: PointMode,
         at: Option<VersionNo>,
         to: Option<VersionNo>,
     ) -> Reply
-        ensures reply { result ≡ (step self.now (Happening.Told (Told.Point name.now pos mode at to))).reply }
-        ensures same { self.now ≡ (step self.now (Happening.Told (Told.Point name.now pos mode at to))).state }
+        ensures reply { result ≡ (step (hook_table hooks.now) self.now (Happening.Told (Told.Point name.now pos mode at to))).reply }
+        ensures same { self.now ≡ (step (hook_table hooks.now) self.now (Happening.Told (Told.Point name.now pos mode at to))).state }
     {
         let Some(number) = self.number_of(name) else {
             return Reply::Refused(Refusal::NoBuffer);
         };
-        let base = &self.buffers[number];
-        let from = base.version_or_now(at);
-        base.point(mode, pos, from, base.version_or_now(to))
+        let document = &self.buffers[number];
+        let from = document.version_or_now(at);
+        document.point(mode, pos, from, document.version_or_now(to))
     }
 
     /// Where a span goes.
     #[tactic(auto, unfolding(ed_machine::specs::Step::step, ed_machine::specs::Step::tests, ed_machine::specs::Step::accepted))]
     fn span(
         &self,
+        hooks: &Hooks,
         name: &Name,
         span: Span,
-        mode: SpanMode,
+        how: &SpanHow,
         at: Option<VersionNo>,
         to: Option<VersionNo>,
     ) -> Reply
-        ensures reply { result ≡ (step self.now (Happening.Told (Told.Span name.now span.start span.len mode at to))).reply }
-        ensures same { self.now ≡ (step self.now (Happening.Told (Told.Span name.now span.start span.len mode at to))).state }
+        ensures reply { result ≡ (step (hook_table hooks.now) self.now (Happening.Told (Told.Span name.now span.start span.len how.now at to))).reply }
+        ensures same { self.now ≡ (step (hook_table hooks.now) self.now (Happening.Told (Told.Span name.now span.start span.len how.now at to))).state }
     {
         let Some(number) = self.number_of(name) else {
             return Reply::Refused(Refusal::NoBuffer);
         };
-        let base = &self.buffers[number];
-        let from = base.version_or_now(at);
-        base.span(mode, span, from, base.version_or_now(to))
+        let document = &self.buffers[number];
+        let from = document.version_or_now(at);
+        document.span(hooks, how, span, from, document.version_or_now(to))
     }
 
     /// Edits a buffer.
@@ -185,54 +239,131 @@ impl Editor {
     fn edit(
         &mut self,
         alloc: Global,
+        hooks: &Hooks,
         name: &Name,
         replaces: &ReplaceList,
+        at: Option<VersionNo>,
     ) -> Result<Reply, OutOfMemory>
-        ensures reply { IfOk result (λ r. r ≡ (step self.old (Happening.Told (Told.Edit name.now replaces.now))).reply) }
-        ensures state { OnOk result (self.new ≡ (step self.old (Happening.Told (Told.Edit name.now replaces.now))).state) }
+        ensures reply { IfOk result (λ r. r ≡ (step (hook_table hooks.now) self.old (Happening.Told (Told.Edit name.now replaces.now at))).reply) }
+        ensures state { OnOk result (self.new ≡ (step (hook_table hooks.now) self.old (Happening.Told (Told.Edit name.now replaces.now at))).state) }
         ensures err { OnErr result (self.new ≡ self.old) }
     {
         let Some(number) = self.number_of(name) else {
             return Ok(Reply::Refused(Refusal::NoBuffer));
         };
-        let base = &mut self.buffers[number];
-        let reply = base.edit(alloc, BufferNo(number as u32), replaces.as_slice())?;
+        let document = &mut self.buffers[number];
+        let reply = document.edit(
+            alloc,
+            hooks,
+            BufferNo(number as u32),
+            replaces.as_slice(),
+            at,
+        )?;
         Ok(reply)
+    }
+
+    /// Adds a read-only region to a buffer.
+    #[tactic(auto, unfolding(ed_machine::specs::Step::step, ed_machine::specs::Step::tests, ed_machine::specs::Step::accepted))]
+    fn add_region(
+        &mut self,
+        hooks: &Hooks,
+        name: &Name,
+        span: Span,
+        edge: EdgeMode,
+        mode: SpanMode,
+        query: &Option<Name>,
+    ) -> Result<Reply, OutOfMemory>
+        ensures reply { IfOk result (λ r. r ≡ (step (hook_table hooks.now) self.old (Happening.Told (Told.Region name.now span.start span.len edge mode query.now))).reply) }
+        ensures state { OnOk result (self.new ≡ (step (hook_table hooks.now) self.old (Happening.Told (Told.Region name.now span.start span.len edge mode query.now))).state) }
+        ensures err { OnErr result (self.new ≡ self.old) }
+    {
+        let Some(number) = self.number_of(name) else {
+            return Ok(Reply::Refused(Refusal::NoBuffer));
+        };
+        let document = &mut self.buffers[number];
+        let reply = document.add_region(hooks, span, mode, edge, query)?;
+        Ok(reply)
+    }
+
+    /// Removes a read-only region of a buffer.
+    #[tactic(auto, unfolding(ed_machine::specs::Step::step, ed_machine::specs::Step::tests, ed_machine::specs::Step::accepted))]
+    fn remove_region(&mut self, hooks: &Hooks, name: &Name, region: RegionNo) -> Reply
+        ensures reply { result ≡ (step (hook_table hooks.now) self.old (Happening.Told (Told.Unregion name.now region))).reply }
+        ensures state { self.new ≡ (step (hook_table hooks.now) self.old (Happening.Told (Told.Unregion name.now region))).state }
+    {
+        let Some(number) = self.number_of(name) else {
+            return Reply::Refused(Refusal::NoBuffer);
+        };
+        let document = &mut self.buffers[number];
+        document.remove_region(region)
+    }
+
+    /// Asks the read-only regions of a buffer, without editing.
+    #[tactic(auto, unfolding(ed_machine::specs::Step::step, ed_machine::specs::Step::tests, ed_machine::specs::Step::accepted))]
+    fn ask_regions(&self, hooks: &Hooks, name: &Name, span: Span) -> Reply
+        ensures reply { result ≡ (step (hook_table hooks.now) self.now (Happening.Told (Told.Readonly name.now span.start span.len))).reply }
+        ensures same { self.now ≡ (step (hook_table hooks.now) self.now (Happening.Told (Told.Readonly name.now span.start span.len))).state }
+    {
+        let Some(number) = self.number_of(name) else {
+            return Reply::Refused(Refusal::NoBuffer);
+        };
+        let document = &self.buffers[number];
+        document.denied_in(hooks, span)
     }
 
     /// Does what a command asks.
     #[tactic(auto, unfolding(ed_machine::specs::Step::step))]
-    fn tell(&mut self, alloc: Global, command: &Command) -> Result<Reply, OutOfMemory>
-        ensures reply { IfOk result (λ r. r ≡ (step self.old (Happening.Told command.now)).reply) }
-        ensures state { OnOk result (self.new ≡ (step self.old (Happening.Told command.now)).state) }
+    fn tell(
+        &mut self,
+        alloc: Global,
+        hooks: &Hooks,
+        command: &Command,
+    ) -> Result<Reply, OutOfMemory>
+        ensures reply { IfOk result (λ r. r ≡ (step (hook_table hooks.now) self.old (Happening.Told command.now)).reply) }
+        ensures state { OnOk result (self.new ≡ (step (hook_table hooks.now) self.old (Happening.Told command.now)).state) }
         ensures err { OnErr result (self.new ≡ self.old) }
     {
         match command {
-            Command::Buffer { name, text } => self.make(alloc, name, text.as_slice()),
-            Command::Edit { buffer, replaces } => self.edit(alloc, buffer, replaces),
-            Command::Text { buffer } => self.text(buffer),
-            Command::Changes { buffer, from } => self.changes(buffer, *from),
+            Command::Buffer { name, text } => self.make(alloc, hooks, name, text.as_slice()),
+            Command::Edit {
+                buffer,
+                replaces,
+                at,
+            } => self.edit(alloc, hooks, buffer, replaces, *at),
+            Command::Region {
+                buffer,
+                start,
+                len,
+                edge,
+                mode,
+                query,
+            } => {
+                let span = span_of(*start, *len);
+                self.add_region(hooks, buffer, span, *edge, *mode, query)
+            }
+            Command::Unregion { buffer, region } => Ok(self.remove_region(hooks, buffer, *region)),
+            Command::Readonly { buffer, start, len } => {
+                Ok(self.ask_regions(hooks, buffer, span_of(*start, *len)))
+            }
+            Command::Text { buffer, at } => self.text(hooks, buffer, *at),
+            Command::Lines { buffer, at } => self.lines(alloc, hooks, buffer, *at),
+            Command::Changes { buffer, from } => self.changes(hooks, buffer, *from),
+            Command::Versions { buffer } => self.versions(alloc, hooks, buffer),
             Command::Point {
                 buffer,
                 pos,
                 mode,
                 at,
                 to,
-            } => Ok(self.point(buffer, *pos, *mode, *at, *to)),
+            } => Ok(self.point(hooks, buffer, *pos, *mode, *at, *to)),
             Command::Span {
                 buffer,
                 start,
                 len,
-                mode,
+                how,
                 at,
                 to,
-            } => {
-                let span = Span {
-                    start: *start,
-                    len: *len,
-                };
-                Ok(self.span(buffer, span, *mode, *at, *to))
-            }
+            } => Ok(self.span(hooks, buffer, span_of(*start, *len), how, *at, *to)),
         }
     }
 
@@ -241,13 +372,18 @@ impl Editor {
     /// # Errors
     ///
     /// Memory was refused; the editor is as it was.
-    pub fn step(&mut self, alloc: Global, event: &Event) -> Result<Reply, OutOfMemory>
-        ensures reply { IfOk result (λ r. r ≡ (step self.old event.now).reply) }
-        ensures state { OnOk result (self.new ≡ (step self.old event.now).state) }
+    pub fn step(
+        &mut self,
+        alloc: Global,
+        hooks: &Hooks,
+        event: &Event,
+    ) -> Result<Reply, OutOfMemory>
+        ensures reply { IfOk result (λ r. r ≡ (step (hook_table hooks.now) self.old event.now).reply) }
+        ensures state { OnOk result (self.new ≡ (step (hook_table hooks.now) self.old event.now).state) }
         ensures err { OnErr result (self.new ≡ self.old) }
     {
         match event {
-            Event::Told(command) => self.tell(alloc, command),
+            Event::Told(command) => self.tell(alloc, hooks, command),
         }
     }
 }

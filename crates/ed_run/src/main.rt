@@ -2,17 +2,22 @@
 //! standard output.
 #![tactic(auto)]
 
-mod base;
+mod document;
+mod editing;
 mod editor;
+mod hooks;
 mod replay;
 mod report;
 mod run;
 mod telling;
 #[cfg(test)]
 mod tests;
+mod tracking;
 mod writing;
 
+use ed_base::{Edges, VersionNo};
 use ed_io::{StdSink, StdSource};
+use hooks::hooks_of;
 use report::Status;
 use run::run;
 use std::io::ErrorKind;
@@ -39,11 +44,30 @@ fn without_words(error: io::Error) -> Status {
 }
 
 fn main(rt: HostRuntime) -> ExitCode {
+    let alloc = rt.alloc();
+    let (Ok(always), Ok(edit_only), Ok(even_version), Ok(sticky), Ok(caret)) = (
+        Box::new(alloc, |_version: VersionNo, _edit: bool| true),
+        Box::new(alloc, |_version: VersionNo, edit: bool| edit),
+        Box::new(alloc, |version: VersionNo, _edit: bool| version.0 % 2 == 0),
+        Box::new(alloc, |edges: Edges| {
+            if edges.len == 0 {
+                (edges.start_pos, edges.start_pos)
+            } else {
+                (edges.start_neg, edges.end_pos)
+            }
+        }),
+        Box::new(alloc, |edges: Edges| (edges.end_pos, edges.end_pos)),
+    ) else {
+        return ExitCode::from(Status::Memory.exit_code());
+    };
+    let Ok(hooks) = hooks_of(alloc, always, edit_only, even_version, sticky, caret) else {
+        return ExitCode::from(Status::Memory.exit_code());
+    };
     let status = match words(&rt) {
         Ok(words) => {
             let mut source = StdSource::new(rt.reader());
             let mut sink = StdSink::new(io::writer(&rt));
-            run(rt.alloc(), words.as_slice(), &mut source, &mut sink).status
+            run(alloc, words.as_slice(), &mut source, &mut sink, &hooks).status
         }
         Err(error) => without_words(error),
     };

@@ -1,6 +1,7 @@
 //! The replay of a script by one seat alone.
 ghost use Rattle.std.specs.Prelude.{◌≡◌, ◌≤◌, []};
 ghost use Rattle.ed_io.specs.Faults.{Rose};
+ghost use Rattle.ed_callbacks.specs.HookLists.{hook_table};
 ghost use Rattle.ed_machine.specs.History.{alone};
 ghost use Rattle.ed_run.specs.Headline.{Replays};
 ghost use Rattle.ed_run.specs.Replaying.{Performs, Plays, ending};
@@ -8,17 +9,18 @@ ghost use Rattle.ed_run.specs.Replaying.{Performs, Plays, ending};
 use crate::report::{Report, Status};
 use crate::telling::tell_all;
 use crate::writing::{Unwritten, write_entries};
+use ed_callbacks::Hooks;
 use ed_io::{Ended, Sink, Source, read_all};
 use ed_script::{BadLine, MOST_BYTES, Script, read_script};
 use std::alloc::Global;
 
 /// Does what a script tells, and writes what was answered.
-fn perform<O: Sink>(alloc: Global, script: Script, sink: &mut O) -> Report
-    ensures performs { Performs (alone script.commands.items) (O.held sink.old) (O.held sink.new) (ending script.bad) (Rose (O.faults sink.old) (O.faults sink.new)) result.status result.entries.items }
+fn perform<O: Sink>(alloc: Global, hooks: &Hooks, script: Script, sink: &mut O) -> Report
+    ensures performs { Performs (alone (hook_table hooks.now) script.commands.items) (O.held sink.old) (O.held sink.new) (ending script.bad) (Rose (O.faults sink.old) (O.faults sink.new)) result.status result.entries.items }
     ensures later { O.faults sink.old ≤ O.faults sink.new }
 {
     let Script { commands, bad } = script;
-    let told = tell_all(alloc, commands);
+    let told = tell_all(alloc, hooks, commands);
     let written = write_entries(alloc, sink, told.entries.as_slice());
     let entries = told.entries;
     if !told.is_whole {
@@ -56,20 +58,26 @@ fn nothing_done(alloc: Global, status: Status) -> Report
 }
 
 /// Replays the script whose bytes these are.
-fn play<O: Sink>(alloc: Global, bytes: Vec<u8>, ended: bool, sink: &mut O) -> Report
-    ensures plays { Plays bytes.items ended (O.held sink.old) (O.held sink.new) (Rose (O.faults sink.old) (O.faults sink.new)) result.status result.entries.items }
+fn play<O: Sink>(alloc: Global, hooks: &Hooks, bytes: Vec<u8>, ended: bool, sink: &mut O) -> Report
+    ensures plays { Plays (hook_table hooks.now) bytes.items ended (O.held sink.old) (O.held sink.new) (Rose (O.faults sink.old) (O.faults sink.new)) result.status result.entries.items }
     ensures later { O.faults sink.old ≤ O.faults sink.new }
 {
     match read_script(alloc, bytes.as_slice(), ended) {
-        Ok(script) => perform(alloc, script, sink),
+        Ok(script) => perform(alloc, hooks, script, sink),
         Err(_) => nothing_done(alloc, Status::Memory),
     }
 }
 
 /// Replays the script that a source gives: reads it whole, tells its commands one after another,
-/// and writes a line for each to the sink. It waits for nobody and returns for every input.
-pub fn replay_alone<I: Source, O: Sink>(alloc: Global, source: &mut I, sink: &mut O) -> Report
-    ensures { Replays (record {
+/// and writes a line for each to the sink. Commands may name these hooks. It waits for nobody and
+/// returns for every input.
+pub fn replay_alone<I: Source, O: Sink>(
+    alloc: Global,
+    source: &mut I,
+    sink: &mut O,
+    hooks: &Hooks,
+) -> Report
+    ensures { Replays (hook_table hooks.now) (record {
       left_before = I.left source.old;
       left_after = I.left source.new;
       source_faults_before = I.faults source.old;
@@ -84,8 +92,8 @@ pub fn replay_alone<I: Source, O: Sink>(alloc: Global, source: &mut I, sink: &mu
 {
     let taken = read_all(alloc, source, MOST_BYTES as u32);
     match taken.ended {
-        Ended::End => play(alloc, taken.bytes, true, sink),
-        Ended::Limit => play(alloc, taken.bytes, false, sink),
+        Ended::End => play(alloc, hooks, taken.bytes, true, sink),
+        Ended::Limit => play(alloc, hooks, taken.bytes, false, sink),
         Ended::Failed => nothing_done(alloc, Status::ReadFault),
         Ended::Memory => nothing_done(alloc, Status::Memory),
     }

@@ -1,10 +1,12 @@
 //! The top call.
 ghost use Rattle.std.specs.Prelude.{◌≡◌, ◌↔◌, map, string_bytes, IsTrue};
+ghost use Rattle.ed_callbacks.specs.HookLists.{hook_table};
 ghost use Rattle.ed_run.specs.Headline.{Headline, replay as a_replay};
 ghost use Rattle.ed_run.specs.Words.{asked};
 
 use crate::replay::replay_alone;
 use crate::report::{Report, Status};
+use ed_callbacks::Hooks;
 use ed_io::{Sink, Source};
 use std::alloc::Global;
 
@@ -16,15 +18,16 @@ fn asks_for_replay(words: &[String]) -> bool
 }
 
 /// Does what the words after the program's name ask for: `replay` replays the script that the
-/// source gives, and writes a line for each of its commands to the sink. Other words are wrong;
-/// then nothing is read or written.
+/// source gives, and writes a line for each of its commands to the sink; commands may name these
+/// hooks. Other words are wrong; then nothing is read or written.
 pub fn run<I: Source, O: Sink>(
     alloc: Global,
     words: &[String],
     source: &mut I,
     sink: &mut O,
+    hooks: &Hooks,
 ) -> Report
-    ensures { Headline (asked (map string_bytes words.now)) (record {
+    ensures { Headline (hook_table hooks.now) (asked (map string_bytes words.now)) (record {
       left_before = I.left source.old;
       left_after = I.left source.new;
       source_faults_before = I.faults source.old;
@@ -38,7 +41,7 @@ pub fn run<I: Source, O: Sink>(
     }) }
 {
     if asks_for_replay(words) {
-        return replay_alone(alloc, source, sink);
+        return replay_alone(alloc, source, sink, hooks);
     }
     Report {
         status: Status::Usage,

@@ -1,9 +1,12 @@
 //! Whole replays, over memory.
 ghost use Rattle.std.specs.Prelude.{◌<◌};
 
+use crate::hooks::hooks_of;
 use crate::replay::replay_alone;
 use crate::report::Status;
 use crate::run::run;
+use ed_base::{Edges, VersionNo};
+use ed_callbacks::Hooks;
 use ed_io::{MemorySink, MemorySource};
 use ed_script::BadKind;
 use std::test::*;
@@ -44,7 +47,22 @@ fn played(
     let mut source = source_of(rt, script, piece, failing_read)?;
     let fail_at = vec![in rt.alloc(); failing_write]?;
     let mut sink = MemorySink::new(rt.alloc(), 1 << 21, piece, fail_at)?;
-    let report = replay_alone(rt.alloc(), &mut source, &mut sink);
+    let alloc = rt.alloc();
+    let hooks = hooks_of(
+        alloc,
+        Box::new(alloc, |_version: VersionNo, _edit: bool| true)?,
+        Box::new(alloc, |_version: VersionNo, edit: bool| edit)?,
+        Box::new(alloc, |version: VersionNo, _edit: bool| version.0 % 2 == 0)?,
+        Box::new(alloc, |edges: Edges| {
+            if edges.len == 0 {
+                (edges.start_pos, edges.start_pos)
+            } else {
+                (edges.start_neg, edges.end_pos)
+            }
+        })?,
+        Box::new(alloc, |edges: Edges| (edges.end_pos, edges.end_pos))?,
+    )?;
+    let report = replay_alone(alloc, &mut source, &mut sink, &hooks);
     let mut written = Vec::new(rt.alloc());
     written.extend_from_slice(sink.written())?;
     Ok(Outcome {
@@ -58,6 +76,13 @@ const fn bad(line: u32) -> Status {
     Status::BadScript {
         line,
         kind: BadKind::NotCommand,
+    }
+}
+
+const fn not_json(line: u32) -> Status {
+    Status::BadScript {
+        line,
+        kind: BadKind::NotJson,
     }
 }
 
@@ -82,16 +107,22 @@ fn replays_scripts_in_pieces_of_any_size(rt: HostRuntime) -> Result<(), Fail> {
             Status::Done,
         ),
         ("{\"do\":\"fly\"}", "", bad(1)),
-        ("\n\nx\n{\"do\":\"text\",\"in\":\"a\"}\n", "", bad(3)),
+        ("\n\nx\n{\"do\":\"text\",\"in\":\"a\"}\n", "", not_json(3)),
+        ("{\"do\":", "", not_json(1)),
         (
-            "{\"do\":\"text\",\"in\":\"a\"}\n{\"do\":\"text\",\"in\":\"a\",\"at\":0}\n{\"do\":\"text\",\"in\":\"a\"}\n",
+            "{\"do\":\"text\",\"in\":\"a\"}\n{\"do\":\"text\",\"in\":\"a\",\"to\":0}\n{\"do\":\"text\",\"in\":\"a\"}\n",
             "1 0 text a: refused 1 NoBuffer\n",
             bad(2),
         ),
         (
-            "{\"do\":\"text\",\"in\":\"a\"}\n{\"do\":\"buffer\",\"name\":\"a\",\"text\":\"\\\"\"}",
+            "{\"do\":\"text\",\"in\":\"a\"}\n{\"do\":\"buffer\",\"name\":\"a\",\"text\":7}",
             "1 0 text a: refused 1 NoBuffer\n",
             bad(2),
+        ),
+        (
+            "{\"do\":\"text\",\"in\":\"a\"}\n{\"do\":\"buffer\",\"name\":\"a\",\"text\":\"\\ud800\"}",
+            "1 0 text a: refused 1 NoBuffer\n",
+            not_json(2),
         ),
     ];
     for (script, output, status) in cases {
@@ -229,6 +260,192 @@ fn tells_changes_and_tracks_across_versions(rt: HostRuntime) -> Result<(), Fail>
     Ok(())
 }
 
+/// Replays the lines and compares what is printed, without the lines' numbers and seats.
+fn answers(rt: &impl AllocGlobal, rows: &[(&str, &str)]) -> Result<(String, String), Fail> {
+    let mut script = String::new(rt.alloc());
+    let mut output = String::new(rt.alloc());
+    let mut number = 0u32;
+    for (line, answer) in rows {
+        script.push_str(line)?;
+        script.push_str("\n")?;
+        number = number.wrapping_add(1);
+        let printed = format!(in rt.alloc(); "{number} 0 {answer}\n")?;
+        output.push_str(printed.as_str())?;
+    }
+    let replay = played(rt, script.as_str(), 4096, 0, 0)?;
+    let written = String::from_utf8(replay.written);
+    Ok((written.unwrap_or(String::new(rt.alloc())), output))
+}
+
+#[test]
+fn texts_of_any_unit_with_lines_and_versions(rt: HostRuntime) -> Result<(), Fail> {
+    let rows = [
+        (
+            "{\"do\":\"buffer\",\"name\":\"a\",\"text\":\"\\ud83d\\ude00x\\r\\n\\u2028\\u0085\\n\"}",
+            "buffer a: made 0",
+        ),
+        (
+            "{\"do\":\"lines\",\"in\":\"a\"}",
+            "lines a: [0,3)2 [5,5)1 [6,6)1 [7,7)1 [8,8)0",
+        ),
+        (
+            "{\"do\":\"edit\",\"in\":\"a\",\"replaces\":[[0,1,\"\"],[3,5,\"\\\"\\\\é\"]],\"at\":0}",
+            "edit a: edited 0@1",
+        ),
+        (
+            "{\"do\":\"text\",\"in\":\"a\"}",
+            "text a: 0@1 \"\\uDE00x\\\"\\\\é\"",
+        ),
+        (
+            "{\"do\":\"text\",\"in\":\"a\",\"at\":0}",
+            "text a: 0@0 \"😀x\\u000D\\u000A\\u2028\\u0085\\u000A\"",
+        ),
+        (
+            "{\"do\":\"lines\",\"in\":\"a\",\"at\":1}",
+            "lines a: [0,5)0",
+        ),
+        (
+            "{\"do\":\"edit\",\"in\":\"a\",\"replaces\":[[9,9,\"\"]],\"at\":0}",
+            "edit a: refused 4 Stale 1",
+        ),
+        (
+            "{\"do\":\"edit\",\"in\":\"a\",\"replaces\":[],\"at\":2}",
+            "edit a: refused 4 Stale 1",
+        ),
+        (
+            "{\"do\":\"text\",\"in\":\"a\",\"at\":2}",
+            "text a: refused 15 NoSuch Version",
+        ),
+        (
+            "{\"do\":\"lines\",\"in\":\"a\",\"at\":2}",
+            "lines a: refused 15 NoSuch Version",
+        ),
+        ("{\"do\":\"versions\",\"in\":\"a\"}", "versions a: 0 1"),
+        (
+            "{\"do\":\"versions\",\"in\":\"b\"}",
+            "versions b: refused 1 NoBuffer",
+        ),
+        (
+            "{\"do\":\"buffer\",\"name\":\"b\",\"text\":\"\"}",
+            "buffer b: made 1",
+        ),
+        ("{\"do\":\"lines\",\"in\":\"b\"}", "lines b: [0,0)0"),
+    ];
+    let (written, expected) = answers(&rt, rows.as_slice())?;
+    assert_eq!(rt; written, expected);
+    Ok(())
+}
+
+#[test]
+fn regions_deny_and_hooks_answer(rt: HostRuntime) -> Result<(), Fail> {
+    let rows = [
+        (
+            "{\"do\":\"buffer\",\"name\":\"a\",\"text\":\"abc\"}",
+            "buffer a: made 0",
+        ),
+        (
+            "{\"do\":\"region\",\"in\":\"a\",\"start\":1,\"len\":1,\"edge\":\"allow\"}",
+            "region a: region 0",
+        ),
+        (
+            "{\"do\":\"region\",\"in\":\"a\",\"start\":1,\"len\":1,\"edge\":\"deny\"}",
+            "region a: region 1",
+        ),
+        (
+            "{\"do\":\"edit\",\"in\":\"a\",\"replaces\":[[1,0,\"x\"]]}",
+            "edit a: refused 8 ReadOnly 0 1",
+        ),
+        (
+            "{\"do\":\"edit\",\"in\":\"a\",\"replaces\":[[1,1,\"x\"]]}",
+            "edit a: refused 8 ReadOnly 0 0",
+        ),
+        (
+            "{\"do\":\"unregion\",\"in\":\"a\",\"region\":1}",
+            "unregion a: removed",
+        ),
+        (
+            "{\"do\":\"unregion\",\"in\":\"a\",\"region\":1}",
+            "unregion a: refused 15 NoSuch Region",
+        ),
+        (
+            "{\"do\":\"edit\",\"in\":\"a\",\"replaces\":[[1,0,\"x\"]]}",
+            "edit a: edited 0@1",
+        ),
+        (
+            "{\"do\":\"readonly\",\"in\":\"a\",\"start\":2,\"len\":1}",
+            "readonly a: denied 0",
+        ),
+        (
+            "{\"do\":\"readonly\",\"in\":\"a\",\"start\":1,\"len\":0}",
+            "readonly a: free",
+        ),
+        (
+            "{\"do\":\"readonly\",\"in\":\"a\",\"start\":4,\"len\":1}",
+            "readonly a: refused 5 OutOfRange 5 4",
+        ),
+        (
+            "{\"do\":\"region\",\"in\":\"a\",\"start\":4,\"len\":1,\"edge\":\"deny\",\"query\":\"never\"}",
+            "region a: refused 5 OutOfRange 5 4",
+        ),
+        (
+            "{\"do\":\"region\",\"in\":\"a\",\"start\":0,\"len\":1,\"edge\":\"deny\",\"query\":\"never\"}",
+            "region a: refused 15 NoSuch Hook",
+        ),
+        (
+            "{\"do\":\"region\",\"in\":\"a\",\"start\":0,\"len\":1,\"edge\":\"deny\",\"mode\":\"inclusive\",\"query\":\"even_version\"}",
+            "region a: region 2",
+        ),
+        (
+            "{\"do\":\"edit\",\"in\":\"a\",\"replaces\":[[0,0,\"y\"]]}",
+            "edit a: edited 0@2",
+        ),
+        (
+            "{\"do\":\"edit\",\"in\":\"a\",\"replaces\":[[0,1,\"\"]]}",
+            "edit a: refused 8 ReadOnly 0 2",
+        ),
+        (
+            "{\"do\":\"span\",\"in\":\"a\",\"start\":0,\"len\":1,\"custom\":\"sticky\",\"at\":0}",
+            "span a: [0,3)",
+        ),
+        (
+            "{\"do\":\"span\",\"in\":\"a\",\"start\":0,\"len\":1,\"custom\":\"caret\",\"at\":0}",
+            "span a: [3,3)",
+        ),
+        (
+            "{\"do\":\"span\",\"in\":\"a\",\"start\":0,\"len\":2,\"custom\":\"sticky\",\"to\":0}",
+            "span a: [0,1)",
+        ),
+        (
+            "{\"do\":\"span\",\"in\":\"a\",\"start\":0,\"len\":1,\"custom\":\"glue\",\"at\":3}",
+            "span a: refused 15 NoSuch Version",
+        ),
+        (
+            "{\"do\":\"span\",\"in\":\"a\",\"start\":0,\"len\":1,\"custom\":\"glue\"}",
+            "span a: refused 15 NoSuch Hook",
+        ),
+    ];
+    let (written, expected) = answers(&rt, rows.as_slice())?;
+    assert_eq!(rt; written, expected);
+    Ok(())
+}
+
+#[test]
+fn one_region_more_than_may_be_live(rt: HostRuntime) -> Result<(), Fail> {
+    let mut script = String::new(rt.alloc());
+    script.push_str(BUFFER)?;
+    let region = "{\"do\":\"region\",\"in\":\"a\",\"start\":0,\"len\":1,\"edge\":\"allow\"}\n";
+    for _ in 0..1025 {
+        script.push_str(region)?;
+    }
+    script.push_str("{\"do\":\"unregion\",\"in\":\"a\",\"region\":7}\n")?;
+    script.push_str(region)?;
+    let replay = played(&rt, script.as_str(), 4096, 0, 0)?;
+    let end =
+        "1025 0 region a: region 1023\n1026 0 region a: refused 16 Limit Regions 1025\n1027 0 unregion a: removed\n1028 0 region a: region 1024\n";
+    assert!(rt; replay.written.as_slice().ends_with(end.as_bytes()));
+    Ok(())
+}
+
 #[test]
 fn a_failed_write_ends_the_output(rt: HostRuntime) -> Result<(), Fail> {
     for failing in 1..=OUTPUT.len() {
@@ -292,7 +509,8 @@ fn wrong_words_read_and_write_nothing(rt: HostRuntime) -> Result<(), Fail> {
         }
         let mut source = source_of(&rt, SESSION, 7, 1)?;
         let mut sink = MemorySink::new(rt.alloc(), 1, 1, vec![in rt.alloc(); 1]?)?;
-        let report = run(rt.alloc(), words.as_slice(), &mut source, &mut sink);
+        let hooks = Hooks::new(rt.alloc());
+        let report = run(rt.alloc(), words.as_slice(), &mut source, &mut sink, &hooks);
         assert_eq!(rt; report.status, Status::Usage, "{line}");
         assert!(rt; report.entries.is_empty());
         assert!(rt; sink.written().is_empty());

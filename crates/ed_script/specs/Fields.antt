@@ -1,13 +1,16 @@
 -- Reading the fields of a command from a JSON object.
-use Rattle.std.specs.Prelude.{ℕ, ◌^◌, Bool, true, false, not, ◌&&◌, List, [], ◌∷◌, codes, nat_lt, nat_le, nat_eq, option_map, option_and_then, Option, Some, None, if◌then◌else◌}
-use Rattle.std.specs.List.{list_any, list_all}
+use Rattle.std.specs.Prelude.{ℕ, ◌^◌, Bool, true, false, ◌&&◌, List, [], ◌∷◌, codes, nat_lt, option_map, option_and_then, unwrap_or, Option, Some, None, if◌then◌else◌}
+use Rattle.std.specs.List.{list_any}
 use Rattle.std.specs.Str.{bytes_eq}
 use Rattle.serde_json.specs.Data.{Data, Items, no_items, item, Members, no_members, member}
 use Rattle.serde_json.specs.Find.{get, as_number, as_str, as_array, as_object, as_u64}
 use Rattle.ed_base.specs.Names.{is_name}
+use Rattle.ed_units.specs.Utf16.{units_of_text}
 use Rattle.ed_base.specs.declared.Replace.{Replace}
 use Rattle.ed_base.specs.declared.PointMode.{PointMode}
 use Rattle.ed_base.specs.declared.SpanMode.{SpanMode}
+use Rattle.ed_base.specs.declared.EdgeMode.{EdgeMode}
+use Rattle.ed_base.specs.declared.SpanHow.{SpanHow}
 
 infixl 10 ◌>>=◌
 abbrev pub ◌>>=◌ : {A B : Type 0} → Option A → (A → Option B) → Option B
@@ -26,13 +29,9 @@ name d = as_str d >>= where_true is_name
 abbrev pub whole : Data → Option ℕ
 whole d = as_number d >>= as_u64 >>= where_true (λ k. nat_lt k (2 ^ 32))
 
--- printable ASCII without the quotation mark and the backslash
-abbrev pub is_plain_byte : ℕ → Bool
-is_plain_byte b = nat_le 32 b && nat_le b 126 && not (nat_eq b 34) && not (nat_eq b 92)
-
--- a string of such characters, whose bytes are its units
+-- a string, as units
 abbrev pub text : Data → Option (List ℕ)
-text d = as_str d >>= where_true (list_all is_plain_byte)
+text d = option_map units_of_text (as_str d)
 
 abbrev pub point_mode_of : List ℕ → Option PointMode
 point_mode_of word =
@@ -52,6 +51,14 @@ span_mode_of word =
 abbrev pub span_mode : Data → Option SpanMode
 span_mode d = as_str d >>= span_mode_of
 
+abbrev pub edge_mode_of : List ℕ → Option EdgeMode
+edge_mode_of word =
+    if bytes_eq word (codes "allow") then Some EdgeMode.Allow
+    else (if bytes_eq word (codes "deny") then Some EdgeMode.Deny else None)
+
+abbrev pub edge_mode : Data → Option EdgeMode
+edge_mode d = as_str d >>= edge_mode_of
+
 -- ---- fields
 
 -- the value under a key that has to be there
@@ -65,6 +72,10 @@ optional key read d = read_if_there read (get key d)
     read_if_there : {A : Type 0} → (Data → Option A) → Option Data → Option (Option A)
     read_if_there read None = Some None
     read_if_there read (Some e) = option_map (λ a. Some a) (read e)
+
+-- the same with a value for a key that is absent
+abbrev pub defaulted : {A : Type 0} → A → List ℕ → (Data → Option A) → Data → Option A
+defaulted default key read d = option_map (λ o. unwrap_or o default) (optional key read d)
 
 -- whether the members have these keys alone
 abbrev pub have_only : List (List ℕ) → Members → Bool
@@ -97,3 +108,9 @@ replace d = as_array d >>= three
     three : Items → Option Replace
     three (item s (item l (item t no_items))) = three_fields s l t
     three _ = None
+
+-- by a mode or by a hook, and not by both
+abbrev pub one_way : Option SpanMode → Option (List ℕ) → Option SpanHow
+one_way (Some mode) None = Some (SpanHow.Mode mode)
+one_way None (Some hook) = Some (SpanHow.Custom hook)
+one_way _ _ = None

@@ -1,5 +1,5 @@
 -- The commands of a script, up to its first bad line.
-use Rattle.std.specs.Prelude.{◌≡◌, ℕ, ◌+◌, ◌^◌, Bool, List, [], ◌∷◌, ◌++◌, length, nat_lt, Option, Some, None, Result, Ok, Err, if◌then◌else◌}
+use Rattle.std.specs.Prelude.{◌≡◌, ℕ, ◌+◌, ◌^◌, Bool, List, [], ◌∷◌, ◌++◌, length, nat_lt, Option, Some, None, option_map, Result, Ok, Err, if◌then◌else◌}
 use Rattle.std.specs.Str.{is_utf8}
 use Rattle.serde_json.specs.Data.{Data}
 use Rattle.serde_json.specs.Read.{read as read_text}
@@ -8,7 +8,6 @@ use Rattle.ed_script.specs.declared.bad.BadKind.{BadKind}
 use Rattle.ed_script.specs.declared.bad.BadLine.{BadLine}
 use Rattle.ed_script.specs.declared.reader.Script.{Script as Found}
 use Rattle.ed_script.specs.Lines.{lines_of, is_blank}
-use Rattle.ed_script.specs.Fields.{◌>>=◌}
 use Rattle.ed_script.specs.Words.{command_of}
 
 -- the value that the bytes are, where they are text and JSON (RFC 8259)
@@ -17,11 +16,12 @@ value_of line = if is_utf8 line then read_text line else None
 
 -- what a line gives: nothing where it is blank, a command, or why it is bad
 unfoldable pub line_command : List ℕ → Result (Option Command) BadKind
-line_command line = if is_blank line then Ok None else command_or_bad (value_of line >>= command_of)
+line_command line = if is_blank line then Ok None else command_or_bad (option_map command_of (value_of line))
   where
-    command_or_bad : Option Command → Result (Option Command) BadKind
-    command_or_bad None = Err BadKind.NotCommand
-    command_or_bad (Some c) = Ok (Some c)
+    command_or_bad : Option (Option Command) → Result (Option Command) BadKind
+    command_or_bad None = Err BadKind.NotJson
+    command_or_bad (Some None) = Err BadKind.NotCommand
+    command_or_bad (Some (Some c)) = Ok (Some c)
 
 -- the commands before the first bad line, and that line with its kind, if there is one
 pub record Script : Type 0 where

@@ -29,7 +29,10 @@ pub struct BadLine {
 /// Why a line gives nothing.
 #[derive(Clone, Copy, Debug, PartialEq, Eq, Error)]
 pub enum LineFault {
-    /// The line isn't a command.
+    /// The line isn't JSON (RFC 8259).
+    #[error("the line is not JSON")]
+    NotJson,
+    /// The line's value isn't a command.
     #[error("the line is not a command")]
     NotCommand,
     /// Memory was refused.

@@ -6,11 +6,13 @@ ghost use Rattle.std.specs.Str.{bytes_eq};
 ghost use Rattle.serde_json.specs.View.{view, members_view, items_view};
 ghost use Rattle.serde_json.specs.Find.{get, as_str, as_array};
 ghost use Rattle.ed_script.specs.Fields as spec;
+ghost use Rattle.ed_base.specs.declared.SpanMode.{SpanMode};
 
 use ed_base::{
-    Name, OutOfMemory, PointMode, Replace, ReplaceList, SharedList, SpanMode, Unit, Units,
-    VersionNo,
+    EdgeMode, Name, OutOfMemory, PointMode, Replace, ReplaceList, SharedList, SpanHow, SpanMode,
+    Units, VersionNo,
 };
+use ed_units::to_units;
 use serde_json::{Map, Value};
 use std::alloc::Global;
 
@@ -56,6 +58,18 @@ pub fn array_at<'v>(value: &'v Value, key: &str) -> Option<&'v [Value]>
     }
 }
 
+fn name(alloc: Global, value: &Value) -> Result<Option<Name>, OutOfMemory>
+    ensures { IfOk result (λ o. o ≡ spec.name (view value.now)) }
+{
+    let Some(text) = value.as_str() else {
+        return Ok(None);
+    };
+    if !Name::is_valid(text) {
+        return Ok(None);
+    }
+    Ok(Some(Name::of(alloc, text)?))
+}
+
 /// The name under a key.
 ///
 /// # Errors
@@ -64,13 +78,31 @@ pub fn array_at<'v>(value: &'v Value, key: &str) -> Option<&'v [Value]>
 pub fn name_at(alloc: Global, value: &Value, key: &str) -> Result<Option<Name>, OutOfMemory>
     ensures { IfOk result (λ o. o ≡ spec.required key.now spec.name (view value.now)) }
 {
-    let Some(text) = text_at(value, key) else {
-        return Ok(None);
-    };
-    if !Name::is_valid(text) {
-        return Ok(None);
+    match value.get(key) {
+        None => Ok(None),
+        Some(found) => name(alloc, found),
     }
-    Ok(Some(Name::of(alloc, text)?))
+}
+
+/// The name under a key that may be absent.
+///
+/// # Errors
+///
+/// Memory was refused.
+pub fn name_if_there(
+    alloc: Global,
+    value: &Value,
+    key: &str,
+) -> Result<Option<Option<Name>>, OutOfMemory>
+    ensures { IfOk result (λ o. o ≡ spec.optional key.now spec.name (view value.now)) }
+{
+    let Some(found) = value.get(key) else {
+        return Ok(Some(None));
+    };
+    match name(alloc, found)? {
+        None => Ok(None),
+        Some(name) => Ok(Some(Some(name))),
+    }
 }
 
 /// A number below 2^32.
@@ -138,53 +170,83 @@ fn span_mode(word: &str) -> Option<SpanMode>
     }
 }
 
-/// The tracking mode of a span under a key.
-pub fn span_mode_at(value: &Value, key: &str) -> Option<SpanMode>
-    ensures { result ≡ spec.required key.now spec.span_mode (view value.now) }
+fn span_mode_of(value: &Value) -> Option<SpanMode>
+    ensures { result ≡ spec.span_mode (view value.now) }
 {
-    match text_at(value, key) {
+    match value.as_str() {
         None => None,
         Some(word) => span_mode(word),
     }
 }
 
-fn is_plain_byte(byte: u8) -> bool
-    ensures { result ≡ spec.is_plain_byte byte }
+/// The tracking mode of a span under a key that may be absent.
+pub fn span_mode_at(value: &Value, key: &str) -> Option<Option<SpanMode>>
+    ensures { result ≡ spec.optional key.now spec.span_mode (view value.now) }
 {
-    (32..=126).contains(&byte) && byte != b'"' && byte != b'\\'
-}
-
-fn is_plain(bytes: &[u8]) -> bool
-    ensures { result ≡ list_all spec.is_plain_byte bytes.now }
-{
-    bytes.iter().all(|byte| is_plain_byte(*byte))
-}
-
-fn units_of(alloc: Global, bytes: &[u8]) -> Result<Units, OutOfMemory>
-    ensures { IfOk result (λ u. u ≡ bytes.now) }
-{
-    let mut units = Vec::with_capacity(alloc, bytes.len())?;
-    for byte in bytes {
-        units.push(Unit::from(*byte))?;
+    match value.get(key) {
+        None => Some(None),
+        Some(found) => match span_mode_of(found) {
+            None => None,
+            Some(mode) => Some(Some(mode)),
+        },
     }
-    Ok(Units::of(units))
 }
 
-/// A text of printable ASCII.
+/// The tracking mode of a span under a key, and where it is absent one that takes nothing in at its
+/// edges.
+pub fn span_mode_or_exclusive(value: &Value, key: &str) -> Option<SpanMode>
+    ensures { result ≡ spec.defaulted SpanMode.EdgeExclusive key.now spec.span_mode (view value.now) }
+{
+    match span_mode_at(value, key) {
+        None => None,
+        Some(None) => Some(SpanMode::EdgeExclusive),
+        Some(Some(mode)) => Some(mode),
+    }
+}
+
+fn edge_mode(word: &str) -> Option<EdgeMode>
+    ensures { result ≡ spec.edge_mode_of word.now }
+{
+    match word {
+        "allow" => Some(EdgeMode::Allow),
+        "deny" => Some(EdgeMode::Deny),
+        _ => None,
+    }
+}
+
+/// What a read-only region lets be put in at its edges, under a key.
+pub fn edge_mode_at(value: &Value, key: &str) -> Option<EdgeMode>
+    ensures { result ≡ spec.required key.now spec.edge_mode (view value.now) }
+{
+    match text_at(value, key) {
+        None => None,
+        Some(word) => edge_mode(word),
+    }
+}
+
+/// How a span is tracked: by a mode or by a hook, and not by both.
+pub fn span_how(mode: Option<SpanMode>, hook: Option<Name>) -> Option<SpanHow>
+    ensures { result ≡ spec.one_way mode hook }
+{
+    match (mode, hook) {
+        (Some(mode), None) => Some(SpanHow::Mode(mode)),
+        (None, Some(hook)) => Some(SpanHow::Custom(hook)),
+        _ => None,
+    }
+}
+
+/// A string, as UTF-16 units.
 ///
 /// # Errors
 ///
 /// Memory was refused.
-pub fn plain_text(alloc: Global, value: &Value) -> Result<Option<Units>, OutOfMemory>
+pub fn text(alloc: Global, value: &Value) -> Result<Option<Units>, OutOfMemory>
     ensures { IfOk result (λ o. o ≡ spec.text (view value.now)) }
 {
-    let Some(text) = value.as_str() else {
-        return Ok(None);
-    };
-    if !is_plain(text.as_bytes()) {
-        return Ok(None);
+    match value.as_str() {
+        None => Ok(None),
+        Some(characters) => Ok(Some(to_units(alloc, characters)?)),
     }
-    Ok(Some(units_of(alloc, text.as_bytes())?))
 }
 
 /// The text under a key.
@@ -197,7 +259,7 @@ pub fn units_at(alloc: Global, value: &Value, key: &str) -> Result<Option<Units>
 {
     match value.get(key) {
         None => Ok(None),
-        Some(found) => plain_text(alloc, found),
+        Some(found) => text(alloc, found),
     }
 }
 
@@ -205,14 +267,14 @@ fn replace_of(
     alloc: Global,
     start: &Value,
     len: &Value,
-    text: &Value,
+    put_in: &Value,
 ) -> Result<Option<Replace>, OutOfMemory>
-    ensures { IfOk result (λ o. o ≡ spec.three_fields (view start.now) (view len.now) (view text.now)) }
+    ensures { IfOk result (λ o. o ≡ spec.three_fields (view start.now) (view len.now) (view put_in.now)) }
 {
     let (Some(start), Some(len)) = (whole(start), whole(len)) else {
         return Ok(None);
     };
-    let Some(text) = plain_text(alloc, text)? else {
+    let Some(text) = text(alloc, put_in)? else {
         return Ok(None);
     };
     Ok(Some(Replace { start, len, text }))

@@ -1,5 +1,7 @@
 //! What a script can tell.
-use ed_base::{Name, PointMode, ReplaceList, SpanMode, Units, VersionNo};
+use ed_base::{
+    EdgeMode, Name, PointMode, RegionNo, ReplaceList, SpanHow, SpanMode, Units, VersionNo,
+};
 
 /// A command of a script.
 #[derive(Drop)]
@@ -9,19 +11,53 @@ pub enum Command {
         name: Name,
         text: Units,
     },
-    /// Edits a buffer. All replaces refer to its text before the edit.
+    /// Edits a buffer. All replaces refer to its text before the edit. Where a version is named it
+    /// has to be the current one.
     Edit {
         buffer: Name,
         replaces: ReplaceList,
+        at: Option<VersionNo>,
     },
-    /// Asks for the text of a buffer.
+    /// Adds a read-only region to a buffer. Its span follows every version by the mode, and a query
+    /// that is named says when it denies.
+    Region {
+        buffer: Name,
+        start: u32,
+        len: u32,
+        edge: EdgeMode,
+        mode: SpanMode,
+        query: Option<Name>,
+    },
+    /// Removes a read-only region.
+    Unregion {
+        buffer: Name,
+        region: RegionNo,
+    },
+    /// Asks whether a region denies what is done at a span: putting something in where it is empty,
+    /// else deleting it.
+    Readonly {
+        buffer: Name,
+        start: u32,
+        len: u32,
+    },
+    /// Asks for the text of a version of a buffer, by default the current one.
     Text {
         buffer: Name,
+        at: Option<VersionNo>,
+    },
+    /// Asks for the lines of a version of a buffer, by default the current one.
+    Lines {
+        buffer: Name,
+        at: Option<VersionNo>,
     },
     /// Asks for the change list from a version of a buffer to the next.
     Changes {
         buffer: Name,
         from: VersionNo,
+    },
+    /// Asks for the reiterated numbers of all versions of a buffer.
+    Versions {
+        buffer: Name,
     },
     /// Asks where a point of version `at` goes in version `to`; each is the current one where it
     /// isn't named.
@@ -32,12 +68,12 @@ pub enum Command {
         at: Option<VersionNo>,
         to: Option<VersionNo>,
     },
-    /// Asks likewise where a span goes.
+    /// Asks likewise where a span goes, by a mode or by a hook.
     Span {
         buffer: Name,
         start: u32,
         len: u32,
-        mode: SpanMode,
+        how: SpanHow,
         at: Option<VersionNo>,
         to: Option<VersionNo>,
     },

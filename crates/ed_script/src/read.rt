@@ -10,11 +10,11 @@ ghost use Rattle.ed_script.specs.declared.bad.BadKind.{BadKind};
 
 use crate::bad::LineFault;
 use crate::fields::{
-    has_only, name_at, point_mode_at, replaces_at, span_mode_at, text_at, units_at, version_at,
-    whole_at,
+    edge_mode_at, has_only, name_at, name_if_there, point_mode_at, replaces_at, span_how,
+    span_mode_at, span_mode_or_exclusive, text_at, units_at, version_at, whole_at,
 };
 use crate::kinds::Command;
-use ed_base::{OutOfMemory, VersionNo};
+use ed_base::{OutOfMemory, RegionNo, SpanHow, VersionNo};
 use serde_json::Value;
 use std::alloc::Global;
 
@@ -38,7 +38,7 @@ fn buffer_command(alloc: Global, value: &Value) -> Result<Option<Command>, OutOf
 fn edit_command(alloc: Global, value: &Value) -> Result<Option<Command>, OutOfMemory>
     ensures { IfOk result (λ o. o ≡ spec.edit_command (view value.now)) }
 {
-    if !has_only(value, &["do", "in", "replaces"]) {
+    if !has_only(value, &["do", "in", "replaces", "at"]) {
         return Ok(None);
     }
     let Some(buffer) = name_at(alloc, value, "in")? else {
@@ -47,20 +47,131 @@ fn edit_command(alloc: Global, value: &Value) -> Result<Option<Command>, OutOfMe
     let Some(replaces) = replaces_at(alloc, value, "replaces")? else {
         return Ok(None);
     };
-    Ok(Some(Command::Edit { buffer, replaces }))
+    let Some(at) = version_at(value, "at") else {
+        return Ok(None);
+    };
+    Ok(Some(Command::Edit {
+        buffer,
+        replaces,
+        at,
+    }))
+}
+
+#[tactic(auto, unfolding(crate::specs::Words::region_command))]
+fn region_command(alloc: Global, value: &Value) -> Result<Option<Command>, OutOfMemory>
+    ensures { IfOk result (λ o. o ≡ spec.region_command (view value.now)) }
+{
+    let keys = &["do", "in", "start", "len", "edge", "mode", "query"];
+    if !has_only(value, keys) {
+        return Ok(None);
+    }
+    let Some(buffer) = name_at(alloc, value, "in")? else {
+        return Ok(None);
+    };
+    let Some(start) = whole_at(value, "start") else {
+        return Ok(None);
+    };
+    let Some(len) = whole_at(value, "len") else {
+        return Ok(None);
+    };
+    let Some(edge) = edge_mode_at(value, "edge") else {
+        return Ok(None);
+    };
+    let Some(mode) = span_mode_or_exclusive(value, "mode") else {
+        return Ok(None);
+    };
+    let Some(query) = name_if_there(alloc, value, "query")? else {
+        return Ok(None);
+    };
+    Ok(Some(Command::Region {
+        buffer,
+        start,
+        len,
+        edge,
+        mode,
+        query,
+    }))
+}
+
+#[tactic(auto, unfolding(crate::specs::Words::unregion_command))]
+fn unregion_command(alloc: Global, value: &Value) -> Result<Option<Command>, OutOfMemory>
+    ensures { IfOk result (λ o. o ≡ spec.unregion_command (view value.now)) }
+{
+    if !has_only(value, &["do", "in", "region"]) {
+        return Ok(None);
+    }
+    let Some(buffer) = name_at(alloc, value, "in")? else {
+        return Ok(None);
+    };
+    let Some(region) = whole_at(value, "region") else {
+        return Ok(None);
+    };
+    let region = RegionNo(region);
+    Ok(Some(Command::Unregion { buffer, region }))
+}
+
+#[tactic(auto, unfolding(crate::specs::Words::readonly_command))]
+fn readonly_command(alloc: Global, value: &Value) -> Result<Option<Command>, OutOfMemory>
+    ensures { IfOk result (λ o. o ≡ spec.readonly_command (view value.now)) }
+{
+    if !has_only(value, &["do", "in", "start", "len"]) {
+        return Ok(None);
+    }
+    let Some(buffer) = name_at(alloc, value, "in")? else {
+        return Ok(None);
+    };
+    let Some(start) = whole_at(value, "start") else {
+        return Ok(None);
+    };
+    let Some(len) = whole_at(value, "len") else {
+        return Ok(None);
+    };
+    Ok(Some(Command::Readonly { buffer, start, len }))
 }
 
 #[tactic(auto, unfolding(crate::specs::Words::text_command))]
 fn text_command(alloc: Global, value: &Value) -> Result<Option<Command>, OutOfMemory>
     ensures { IfOk result (λ o. o ≡ spec.text_command (view value.now)) }
 {
-    if !has_only(value, &["do", "in"]) {
+    if !has_only(value, &["do", "in", "at"]) {
         return Ok(None);
     }
     let Some(buffer) = name_at(alloc, value, "in")? else {
         return Ok(None);
     };
-    Ok(Some(Command::Text { buffer }))
+    let Some(at) = version_at(value, "at") else {
+        return Ok(None);
+    };
+    Ok(Some(Command::Text { buffer, at }))
+}
+
+#[tactic(auto, unfolding(crate::specs::Words::lines_command))]
+fn lines_command(alloc: Global, value: &Value) -> Result<Option<Command>, OutOfMemory>
+    ensures { IfOk result (λ o. o ≡ spec.lines_command (view value.now)) }
+{
+    if !has_only(value, &["do", "in", "at"]) {
+        return Ok(None);
+    }
+    let Some(buffer) = name_at(alloc, value, "in")? else {
+        return Ok(None);
+    };
+    let Some(at) = version_at(value, "at") else {
+        return Ok(None);
+    };
+    Ok(Some(Command::Lines { buffer, at }))
+}
+
+#[tactic(auto, unfolding(crate::specs::Words::versions_command))]
+fn versions_command(alloc: Global, value: &Value) -> Result<Option<Command>, OutOfMemory>
+    ensures { IfOk result (λ o. o ≡ spec.versions_command (view value.now)) }
+{
+    if !has_only(value, &["do", "in"]) {
+        return Ok(None);
+    }
+    match name_at(alloc, value, "in")? {
+        None => Ok(None),
+        Some(buffer) => Ok(Some(Command::Versions { buffer })),
+    }
 }
 
 #[tactic(auto, unfolding(crate::specs::Words::changes_command))]
@@ -111,11 +222,25 @@ fn point_command(alloc: Global, value: &Value) -> Result<Option<Command>, OutOfM
     }))
 }
 
+/// How a span is to be tracked.
+fn how(alloc: Global, value: &Value) -> Result<Option<SpanHow>, OutOfMemory>
+    ensures { IfOk result (λ o. o ≡ spec.how (view value.now)) }
+{
+    let Some(mode) = span_mode_at(value, "mode") else {
+        return Ok(None);
+    };
+    match name_if_there(alloc, value, "custom")? {
+        None => Ok(None),
+        Some(hook) => Ok(span_how(mode, hook)),
+    }
+}
+
 #[tactic(auto, unfolding(crate::specs::Words::span_command))]
 fn span_command(alloc: Global, value: &Value) -> Result<Option<Command>, OutOfMemory>
     ensures { IfOk result (λ o. o ≡ spec.span_command (view value.now)) }
 {
-    if !has_only(value, &["do", "in", "start", "len", "mode", "at", "to"]) {
+    let keys = &["do", "in", "start", "len", "mode", "custom", "at", "to"];
+    if !has_only(value, keys) {
         return Ok(None);
     }
     let Some(buffer) = name_at(alloc, value, "in")? else {
@@ -127,7 +252,7 @@ fn span_command(alloc: Global, value: &Value) -> Result<Option<Command>, OutOfMe
     let Some(len) = whole_at(value, "len") else {
         return Ok(None);
     };
-    let Some(mode) = span_mode_at(value, "mode") else {
+    let Some(how) = how(alloc, value)? else {
         return Ok(None);
     };
     let Some(at) = version_at(value, "at") else {
@@ -140,7 +265,7 @@ fn span_command(alloc: Global, value: &Value) -> Result<Option<Command>, OutOfMe
         buffer,
         start,
         len,
-        mode,
+        how,
         at,
         to,
     }))
@@ -153,8 +278,13 @@ fn by_word(alloc: Global, word: &str, value: &Value) -> Result<Option<Command>, 
     match word {
         "buffer" => buffer_command(alloc, value),
         "edit" => edit_command(alloc, value),
+        "region" => region_command(alloc, value),
+        "unregion" => unregion_command(alloc, value),
+        "readonly" => readonly_command(alloc, value),
         "text" => text_command(alloc, value),
+        "lines" => lines_command(alloc, value),
         "changes" => changes_command(alloc, value),
+        "versions" => versions_command(alloc, value),
         "point" => point_command(alloc, value),
         "span" => span_command(alloc, value),
         _ => Ok(None),
@@ -199,17 +329,18 @@ fn value_of_line(alloc: Global, line: &[u8]) -> Result<Option<Value>, OutOfMemor
 ///
 /// # Errors
 ///
-/// The line isn't a command, or memory was refused.
+/// The line isn't JSON (RFC 8259), its value isn't a command, or memory was refused.
 #[tactic(auto, unfolding(crate::specs::Script::line_command))]
 pub fn command(alloc: Global, line: &[u8]) -> Result<Option<Command>, LineFault>
     ensures ok { IfOk result (λ o. line_command line.now ≡ Ok o) }
+    ensures not_json { IsErrOf result LineFault.NotJson → line_command line.now ≡ Err BadKind.NotJson }
     ensures not_command { IsErrOf result LineFault.NotCommand → line_command line.now ≡ Err BadKind.NotCommand }
 {
     if is_blank_line(line) {
         return Ok(None);
     }
     let Some(value) = value_of_line(alloc, line)? else {
-        return Err(LineFault::NotCommand);
+        return Err(LineFault::NotJson);
     };
     match command_of(alloc, &value)? {
         None => Err(LineFault::NotCommand),

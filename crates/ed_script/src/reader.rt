@@ -44,6 +44,7 @@ fn rest_after(bytes: &[u8], end: usize) -> &[u8]
 /// Adds the command of a line, if it gives one.
 fn add_line(alloc: Global, commands: &mut Vec<Command>, line: &[u8]) -> Result<(), LineFault>
     ensures ok { OnOk result ((o : Option Command) × (line_command line.now ≡ Ok o) × (commands.new.items ≡ commands.old.items ++ listed o)) }
+    ensures not_json { IsErrOf result LineFault.NotJson → (line_command line.now ≡ Err BadKind.NotJson) × (commands.new.items ≡ commands.old.items) }
     ensures not_command { IsErrOf result LineFault.NotCommand → (line_command line.now ≡ Err BadKind.NotCommand) × (commands.new.items ≡ commands.old.items) }
 {
     match command(alloc, line)? {
@@ -55,14 +56,11 @@ fn add_line(alloc: Global, commands: &mut Vec<Command>, line: &[u8]) -> Result<(
     }
 }
 
-fn bad_at(commands: Vec<Command>, line: u32) -> Script
+fn bad_at(commands: Vec<Command>, line: u32, kind: BadKind) -> Script
     ensures commands { result.commands ≡ commands }
-    ensures bad { result.bad ≡ (spec.bad_at line BadKind.NotCommand).bad }
+    ensures bad { result.bad ≡ (spec.bad_at line kind).bad }
 {
-    let bad = Some(BadLine {
-        line,
-        kind: BadKind::NotCommand,
-    });
+    let bad = Some(BadLine { line, kind });
     Script { commands, bad }
 }
 
@@ -87,7 +85,8 @@ fn with_last_line(
             commands,
             bad: None,
         }),
-        Err(LineFault::NotCommand) => Ok(bad_at(commands, number)),
+        Err(LineFault::NotJson) => Ok(bad_at(commands, number, BadKind::NotJson)),
+        Err(LineFault::NotCommand) => Ok(bad_at(commands, number, BadKind::NotCommand)),
         Err(LineFault::OutOfMemory) => Err(OutOfMemory),
     }
 }
@@ -104,14 +103,17 @@ pub fn read_script(alloc: Global, bytes: &[u8], ended: bool) -> Result<Script, O
 {
     let mut commands = Vec::new(alloc);
     if bytes.len() > MOST_BYTES {
-        return Ok(bad_at(commands, 1));
+        return Ok(bad_at(commands, 1, BadKind::NotCommand));
     }
     let mut rest = bytes;
     let mut number: u32 = 1;
     while let Some(end) = line_end(rest) {
         match add_line(alloc, &mut commands, line_before(rest, end)) {
             Ok(()) => {}
-            Err(LineFault::NotCommand) => return Ok(bad_at(commands, number)),
+            Err(LineFault::NotJson) => return Ok(bad_at(commands, number, BadKind::NotJson)),
+            Err(LineFault::NotCommand) => {
+                return Ok(bad_at(commands, number, BadKind::NotCommand));
+            }
             Err(LineFault::OutOfMemory) => return Err(OutOfMemory),
         }
         rest = rest_after(rest, end);

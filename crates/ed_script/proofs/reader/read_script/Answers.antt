@@ -6,6 +6,12 @@ use Rattle.ed_script.specs.Script.{Script, script_of, line_command, IsScript}
 use Rattle.ed_script.proofs.Unread.{unread-none, unread-ok, unread-bad}
 use Rattle.ed_script.proofs.reader.read_script.Goals as goal
 
+pub returns-in-Err-NotJson : goal.returns-in-Err-NotJson
+returns-in-Err-NotJson c =
+    let found = c.in-Err-NotJson.ensures.not_json (ap Err c.in-Err-NotJson.field-0-is) in
+    let e = unread-bad (script_of c.args.bytes.now c.args.ended) c.loop-end.commands.items c.add_line.new.commands.items c.args.ended c.loop-end.number c.loop-end.rest.now c.in-Some.end BadKind.NotJson c.loop-end.invariant.before (sym c.in-Some.ensures) (ap line_command (sym c.line_before.ensures) ∙ found.0) found.1 in
+    (ap (λ v. v.items) c.bad_at-in-Err-NotJson.ensures.commands ∙ e.0, c.bad_at-in-Err-NotJson.ensures.bad ∙ e.1)
+
 pub returns-in-Err-NotCommand : goal.returns-in-Err-NotCommand
 returns-in-Err-NotCommand c =
     let found = c.in-Err-NotCommand.ensures.not_command (ap Err c.in-Err-NotCommand.field-0-is) in

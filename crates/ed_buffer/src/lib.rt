@@ -1,0 +1,14 @@
+//! Base buffers: versions that follow each other, and the read-only regions that follow them.
+#![tactic(auto)]
+
+mod base;
+mod fault;
+mod planned;
+mod replaces;
+#[cfg(test)]
+mod tests;
+
+pub use base::Base;
+pub use ed_base::{Piece, Side, Trail};
+pub use fault::BaseFault;
+pub use planned::BaseStep;

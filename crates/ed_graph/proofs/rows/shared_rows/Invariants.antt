@@ -1,0 +1,5 @@
+use Rattle.std.proofs.Common.{◌≡◌, take}
+use Rattle.ed_graph.proofs.rows.shared_rows.Given as goal
+
+abbrev pub invariant-loop-list : goal.invariant-loop-list
+invariant-loop-list l = l.rows.items ≡ take l.list-index l.lists

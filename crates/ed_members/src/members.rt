@@ -1,0 +1,155 @@
+//! The members of a projection as a value.
+ghost use Rattle.std.specs.Prelude.{◌≡◌, ◌+◌, ◌<◌, ◌≤◌, ◌^◌, ◌⊎◌, length, None, Some, IfErr, IsErrAnd, IfOk, MatchOption, slice_get};
+ghost use Rattle.ed_layers.specs.Order.{overlap_fault};
+ghost use Rattle.ed_layers.specs.Records.{member_len, members_len, placement};
+ghost use Rattle.ed_members.specs.Faults.{first_fault, len_in, refusal_of, replaced};
+
+use crate::conflicts::conflicting;
+use crate::copies::put_copies;
+use crate::fault::MemberFault;
+use crate::modes::uncovered;
+use crate::starts::{len_of, starts_of};
+use ed_base::{BufferNo, Member, OutOfMemory, Span};
+use std::alloc::Global;
+use std::marker::Model;
+
+/// The members of a projection, in the order in which their texts stand: texts of its own, and
+/// spans of sources that follow them. Of two members on one source the first ends before the other
+/// begins, or they touch.
+///
+/// Its notions are those of the editor SDK's `IProjectionBuffer` and
+/// `IProjectionSnapshot.GetSourceSpans`.
+#[derive(Drop)]
+pub struct Members {
+    list: Vec<Member>,
+    starts: Vec<u32>,
+    total: u32,
+}
+
+impl Model for Members {
+    ghost use Rattle.std.specs.Prelude.{List};
+    ghost use Rattle.ed_base.specs.declared.piece.Member.{Member};
+    ghost use Rattle.ed_members.specs.Starts.{IsKept};
+
+    ghost Value = { List Member };
+
+    ghost view = { λ m. m.list.items };
+
+    ghost invariant = { λ m. IsKept m.list.items m.starts.items m.total };
+}
+
+impl Members {
+    /// These members. The lengths of the sources are listed once each, in units.
+    ///
+    /// # Errors
+    ///
+    /// `Mode` names the first inclusive member that doesn't cover its source, exactly where there
+    /// is one. Else `Overlap` names the first member that conflicts with one behind it, and the
+    /// first such one, exactly where there is one. Else memory may be refused.
+    pub fn of(
+        alloc: Global,
+        list: Vec<Member>,
+        source_len: &[(BufferNo, u32)],
+    ) -> Result<Members, MemberFault>
+        requires few { length list.items < 2 ^ 32 }
+        requires short { members_len list.items < 2 ^ 32 }
+        ensures members { IfOk result (λ m. m ≡ list.items) }
+        ensures fault { MatchOption (first_fault (len_in source_len.now) list.items) (IfErr result (λ e. e ≡ MemberFault.OutOfMemory)) (λ r. IsErrAnd result (λ e. refusal_of e ≡ Some r)) }
+    {
+        if let Some(index) = uncovered(source_len, &list) {
+            return Err(MemberFault::Mode { index });
+        }
+        if let Some((index, other)) = conflicting(alloc, &list) {
+            return Err(MemberFault::Overlap { index, other });
+        }
+        let (starts, total) = starts_of(alloc, &list)?;
+        Ok(Members {
+            list,
+            starts,
+            total,
+        })
+    }
+
+    /// These members, but with those of this list in place of `count` members from `first` on. What
+    /// stays is copied, a literal with its units.
+    ///
+    /// # Errors
+    ///
+    /// Want of memory, or the fault that `of` names for the list that would result, where it has
+    /// one. Indices are those of that list.
+    pub fn replace_spans(
+        &self,
+        alloc: Global,
+        first: u32,
+        count: u32,
+        list: Vec<Member>,
+        source_len: &[(BufferNo, u32)],
+    ) -> Result<Members, MemberFault>
+        requires there { first + count ≤ length self.now }
+        requires few { length (replaced self.now first count list.items) < 2 ^ 32 }
+        requires short { members_len (replaced self.now first count list.items) < 2 ^ 32 }
+        ensures members { IfOk result (λ m. m ≡ replaced self.now first count list.items) }
+        ensures fault { MatchOption (first_fault (len_in source_len.now) (replaced self.now first count list.items)) (IfErr result (λ e. e ≡ MemberFault.OutOfMemory)) (λ r. IsErrAnd result (λ e. (e ≡ MemberFault.OutOfMemory) ⊎ (refusal_of e ≡ Some r))) }
+    {
+        let joined = self.joined(alloc, first, count, list)?;
+        Members::of(alloc, joined, source_len)
+    }
+
+    /// The list that results.
+    fn joined(
+        &self,
+        alloc: Global,
+        first: u32,
+        count: u32,
+        list: Vec<Member>,
+    ) -> Result<Vec<Member>, OutOfMemory>
+        requires { first + count ≤ length self.now }
+        ensures { IfOk result (λ v. v.items ≡ replaced self.now first count list.items) }
+    {
+        let members = self.list.as_slice();
+        let end = first + count;
+        let mut added = list;
+        let mut joined = Vec::new(alloc);
+        put_copies(alloc, &mut joined, &members[..first as usize])?;
+        joined.append(&mut added)?;
+        put_copies(alloc, &mut joined, &members[end as usize..])?;
+        Ok(joined)
+    }
+
+    /// How many members there are.
+    pub fn count(&self) -> u32
+        ensures count { result ≡ length self.now }
+        ensures apart { overlap_fault self.now ≡ None }
+    {
+        self.list.len() as u32
+    }
+
+    /// The member with this index, from 0 on.
+    pub fn get(&self, i: u32) -> &Member
+        requires { i < length self.now }
+        ensures { slice_get self.now i ≡ Some result.now }
+    {
+        &self.list[i as usize]
+    }
+
+    /// Where the member with this index lies in the text of the projection, in units.
+    pub fn place(&self, i: u32) -> Span
+        requires { i < length self.now }
+        ensures place { result ≡ placement self.now i }
+        ensures within { result.start + result.len ≤ members_len self.now }
+    {
+        let starts = self.starts.as_slice();
+        let members = self.list.as_slice();
+        Span {
+            start: starts[i as usize],
+            len: len_of(&members[i as usize]),
+        }
+    }
+
+    /// The length of the text of the projection, in units.
+    pub fn len(&self) -> u32
+        ensures { result ≡ members_len self.now }
+    {
+        self.total
+    }
+}

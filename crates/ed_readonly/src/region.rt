@@ -1,0 +1,153 @@
+//! One read-only region.
+ghost use Rattle.std.specs.Prelude.{◌≡◌, ◌+◌, ◌<◌, ◌≤◌, ◌&&◌, max, min, option_map};
+ghost use Rattle.ed_base.specs.ChangeList.{new_len, step};
+ghost use Rattle.ed_base.specs.Denial.{forbids, forbids_insertion, query_lets, region_after};
+ghost use Rattle.ed_base.specs.Spans.{end_of, shares_unit, touches_gap};
+ghost use Rattle.ed_callbacks.specs.HookLists.{hook_table};
+
+use ed_base::{Changes, EdgeMode, Name, RegionNo, Span, SpanMode, VersionNo};
+use ed_callbacks::Hooks;
+use std::marker::Model;
+
+/// A live read-only region: its number within its buffer, its span now, how the span moves with the
+/// text, whether text may be put in at its edges, and the query that it asks before it denies.
+#[derive(Drop)]
+pub struct ReadOnlyRegion {
+    number: RegionNo,
+    span: Span,
+    mode: SpanMode,
+    edge: EdgeMode,
+    query: Option<Name>,
+}
+
+impl Model for ReadOnlyRegion {
+    ghost use Rattle.ed_base.specs.Denial.{Region};
+
+    ghost Value = { Region };
+
+    ghost view = { λ r. record { number = r.number; span = r.span; mode = r.mode; edge = r.edge; query = r.query } };
+}
+
+/// Where a span ends, in units.
+fn end(span: Span) -> u64
+    ensures { result ≡ end_of span }
+{
+    u64::from(span.start) + u64::from(span.len)
+}
+
+/// Whether some unit lies in both spans.
+fn share_a_unit(first: Span, second: Span) -> bool
+    ensures { result ≡ shares_unit first second }
+{
+    u64::from(first.start.max(second.start)) < end(first).min(end(second))
+}
+
+/// Whether text may not be put in at the gap of a region with this span and edge mode.
+fn is_insertion_forbidden(edge: EdgeMode, span: Span, gap: u32) -> bool
+    ensures { result ≡ forbids_insertion edge span gap }
+{
+    let gap_place = u64::from(gap);
+    match edge {
+        EdgeMode::Allow => span.start < gap && gap_place < end(span),
+        EdgeMode::Deny => span.start <= gap && gap_place <= end(span),
+    }
+}
+
+/// Whether the query lets its region deny. One that isn't there does.
+fn lets_deny(hooks: &Hooks, query: &Option<Name>, version: VersionNo, edit: bool) -> bool
+    ensures { result ≡ query_lets (hook_table hooks.now) query.now version edit }
+{
+    let Some(name) = query else {
+        return true;
+    };
+    match hooks.query(name.as_str()) {
+        None => true,
+        Some(query) => query.denies(version, edit),
+    }
+}
+
+impl ReadOnlyRegion {
+    pub(crate) fn new(
+        number: RegionNo,
+        span: Span,
+        mode: SpanMode,
+        edge: EdgeMode,
+        query: Option<Name>,
+    ) -> ReadOnlyRegion
+        ensures { result ≡ record { number = number; span = span; mode = mode; edge = edge; query = query } }
+    {
+        ReadOnlyRegion {
+            number,
+            span,
+            mode,
+            edge,
+            query,
+        }
+    }
+
+    /// Its number within its buffer.
+    pub fn number(&self) -> RegionNo
+        ensures { result ≡ self.now.number }
+    {
+        self.number
+    }
+
+    /// Its span now, in units.
+    pub fn span(&self) -> Span
+        ensures { result ≡ self.now.span }
+    {
+        self.span
+    }
+
+    /// How its span moves with the text.
+    pub fn mode(&self) -> SpanMode
+        ensures { result ≡ self.now.mode }
+    {
+        self.mode
+    }
+
+    /// Whether text may be put in at its edges.
+    pub fn edge(&self) -> EdgeMode
+        ensures { result ≡ self.now.edge }
+    {
+        self.edge
+    }
+
+    /// The name of the query that it asks.
+    pub fn query(&self) -> Option<&str>
+        ensures { option_map (λ name. name.now) result ≡ self.now.query }
+    {
+        match &self.query {
+            None => None,
+            Some(name) => Some(name.as_str()),
+        }
+    }
+
+    /// Whether it forbids what is done at the span, its query aside: an insertion where the span is
+    /// empty, else a deletion.
+    fn forbids(&self, at: Span) -> bool
+        ensures { result ≡ forbids self.now at }
+    {
+        if at.len == 0 {
+            is_insertion_forbidden(self.edge, self.span, at.start)
+        } else {
+            share_a_unit(self.span, at)
+        }
+    }
+
+    /// Whether it denies what is done at the span.
+    pub(crate) fn denies(&self, at: Span, version: VersionNo, edit: bool, hooks: &Hooks) -> bool
+        ensures { result ≡ forbids self.now at && query_lets (hook_table hooks.now) self.now.query version edit }
+    {
+        self.forbids(at) && lets_deny(hooks, &self.query, version, edit)
+    }
+
+    /// Moves it with the text across a step.
+    pub(crate) fn advance(&mut self, changes: &Changes)
+        requires { end_of self.old.span ≤ changes.now.old_len }
+        ensures moved { self.new ≡ region_after (step changes.now) self.old }
+        ensures within { end_of self.new.span ≤ new_len changes.now }
+    {
+        self.span = ed_track::span(self.mode, self.span, changes);
+    }
+}

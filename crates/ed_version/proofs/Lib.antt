@@ -1,0 +1,4 @@
+pub mod Lookups
+pub mod Following
+pub mod Linking
+pub mod Repeating

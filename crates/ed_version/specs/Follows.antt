@@ -1,0 +1,11 @@
+-- How the texts of a buffer follow each other.
+use Rattle.std.specs.Prelude.{◌≡◌, ℕ, List, [], ◌∷◌, length}
+use Rattle.ed_base.specs.ChangeList.{ChangeList, applied, new_len}
+
+-- each change list leads from one text to the next
+abbrev pub Follows : List (List ℕ) → List ChangeList → Type 0
+Follows [] changes = ⊥
+Follows (t ∷ []) [] = Unit {0}
+Follows (t ∷ []) (c ∷ cs) = ⊥
+Follows (t ∷ u ∷ ts) [] = ⊥
+Follows (t ∷ u ∷ ts) (c ∷ cs) = (c.old_len ≡ length t) × (u ≡ applied c t) × (new_len c ≡ length u) × Follows (u ∷ ts) cs

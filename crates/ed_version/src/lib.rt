@@ -1,0 +1,10 @@
+//! The versions of a buffer: texts that never change, with what leads from each to the next.
+#![tactic(auto)]
+
+mod chain;
+mod snapshot;
+#[cfg(test)]
+mod tests;
+
+pub use chain::{Chain, Version};
+pub use snapshot::Snapshot;
