@@ -1,2 +1,16 @@
+pub mod Bools
 pub mod Places
+pub mod Permuted
 pub mod Standing
+pub mod Indices
+pub mod Ranges
+pub mod Pairs
+pub mod Keeping
+pub mod Putting
+pub mod Sorting
+pub mod Following
+pub mod NextStarts
+pub mod After
+pub mod Within
+pub mod StayApart
+pub mod Unowned

@@ -1,45 +1,19 @@
 -- Members that stand one behind the other, each apart from the next, don't conflict.
 use Rattle.std.proofs.Common.{◌≡◌, ◌≢◌, ℕ, zero, suc, ◌+◌, ◌-◌, ◌++◌, ◌<◌, ◌≤◌, Bool, true, false, not, ◌&&◌, ◌||◌, cond, ◌⊎◌, inl, inr, List, [], ◌∷◌, length, get_or, Option, Some, None, refl, sym, ◌∙◌, ap, subst, arith}
 use Rattle.std.specs.Prelude.{nat_eq, nat_lt, nat_le, slice_index, slice_get, find, IsPermutation, option_map}
-use Rattle.std.specs.List.{list_any, enumerate_from, Any}
+use Rattle.std.specs.List.{enumerate_from}
 use Rattle.std.proofs.lemmas.Bool.{cases_lt, cases_eq, eqb-true, eq-eqb, ne_eqb, ltb-true, lt-ltb, leb-true, le-leb}
-use Rattle.std.proofs.lemmas.List.{get_or_read, map-id}
-use Rattle.std.proofs.lemmas.List.Folds.{Any-from_list_any, list_any_at}
-use Rattle.std.proofs.lemmas.List.FromFn.{get_or-range_with_len, length-range_with_len, get_or-enumerate_from, length-enumerate_from, map-range_with_len_more}
-use Rattle.std.proofs.lemmas.List.Sorted.{list_any-IsPermutation}
+use Rattle.std.proofs.lemmas.List.{map-id}
+use Rattle.std.proofs.lemmas.List.FromFn.{get_or-enumerate_from, length-enumerate_from, map-range_with_len_more}
 use Rattle.std.proofs.lemmas.Option.{slice_get-get_or}
 use Rattle.ed_base.specs.declared.edit.Span.{Span}
 use Rattle.ed_base.specs.declared.piece.Member.{Member}
 use Rattle.ed_base.specs.Numbers.{places, or_else}
 use Rattle.ed_base.specs.Spans.{end_of, is_before}
 use Rattle.ed_layers.specs.Order.{is_inclusive, stands_before, in_order, conflict, first_conflict}
+use Rattle.ed_members.proofs.Bools.{or_left, or_right, or_cases, and_true, and_parts}
+use Rattle.ed_members.proofs.Permuted.{place_of}
 use Rattle.ed_members.specs.Apart.{is_apart, both, follow_at}
-
--- ---- tests
-
-or_left : (a b : Bool) → a ≡ true → (a || b) ≡ true
-or_left true b h = refl
-or_left false b h = absurd (cc)
-
-or_right : (a b : Bool) → b ≡ true → (a || b) ≡ true
-or_right true b h = refl
-or_right false b h = h
-
-or_cases : (a b : Bool) → (a || b) ≡ true → (a ≡ true) ⊎ (b ≡ true)
-or_cases true b h = inl refl
-or_cases false b h = inr h
-
-and_true : (a b : Bool) → a ≡ true → b ≡ true → (a && b) ≡ true
-and_true true b h k = k
-and_true false b h k = absurd (cc)
-
-and_parts : (a b : Bool) → (a && b) ≡ true → (a ≡ true) × (b ≡ true)
-and_parts true b h = (refl, h)
-and_parts false b h = absurd (cc)
-
-not_true : (b : Bool) → not b ≡ true → b ≡ false
-not_true true h = absurd (cc)
-not_true false h = refl
 
 -- ---- two tracked members of one source
 
@@ -105,14 +79,14 @@ ordered i j x x' ne le =
           ])
     ]
 
-in_either : (i j : ℕ) (x x' : Span) → i ≢ j → end_of x ≤ x'.start → (in_order (i, x) (j, x') ≡ true) × (in_order (j, x') (i, x) ≡ true)
+pub in_either : (i j : ℕ) (x x' : Span) → i ≢ j → end_of x ≤ x'.start → (in_order (i, x) (j, x') ≡ true) × (in_order (j, x') (i, x) ≡ true)
 in_either i j x x' ne le =
     elim (ordered i j x x' ne le) [
       | inl a ↦ (or_left _ _ a, or_right (stands_before (j, x') (i, x) && nat_le (end_of x') x.start) _ a)
       | inr b ↦ (or_right (stands_before (i, x) (j, x') && nat_le (end_of x) x'.start) _ b, or_left _ _ b)
     ]
 
-kept_apart : (t i i' o : Bool) → not i ≡ true → not i' ≡ true → o ≡ true → (t && (i || i' || not o)) ≡ false
+pub kept_apart : (t i i' o : Bool) → not i ≡ true → not i' ≡ true → o ≡ true → (t && (i || i' || not o)) ≡ false
 kept_apart true false false true h k l = refl
 kept_apart false i i' o h k l = refl
 kept_apart true true i' o h k l = absurd (cc)
@@ -151,18 +125,10 @@ module _ (ms : List Member) (order : List ℕ) (adjacent : (p : ℕ) → p + 1 <
       (subst (λ q. follow_at ms (slice_index order (p + suc d)) (slice_index order q) ≡ true) (let e : (p + suc d) + 1 ≡ p + suc (suc d) = omega arith in e) (adjacent (p + suc d) (omega arith)))
 
   module _ (permuted : IsPermutation (places (length ms)) order) where
-    place_of : (i : ℕ) → i < length ms → (p : ℕ) × (p < length order) × (slice_index order p ≡ i)
-    place_of i h =
-        let listed : list_any (nat_eq i) (places (length ms)) ≡ true =
-        list_any_at (nat_eq i) (places (length ms)) i 0 (let l : length (places (length ms)) ≡ length ms = length-range_with_len 0 (length ms) in omega arith)
-        (eq-eqb i (get_or (places (length ms)) i 0) (sym (get_or-range_with_len 0 (length ms) i 0 h ∙ (let z : 0 + i ≡ i = omega arith in z)))) in
-        let some : Any (λ x. nat_eq i x ≡ true) order = Any-from_list_any (nat_eq i) order (sym (list_any-IsPermutation (nat_eq i) (places (length ms)) order permuted) ∙ listed) in
-        (some.0, some.2, sym (get_or_read order some.0 some.1 some.2 (sym some.3) 0) ∙ sym (eqb-true i some.1 some.4))
-
     either_way : (i j : ℕ) → i ≢ j → i < length ms → j < length ms → (follow_at ms i j ≡ true) ⊎ (follow_at ms j i ≡ true)
     either_way i j ne h h' =
-        let p : (p : ℕ) × (p < length order) × (slice_index order p ≡ i) = place_of i h in
-        let q : (q : ℕ) × (q < length order) × (slice_index order q ≡ j) = place_of j h' in
+        let p : (p : ℕ) × (p < length order) × (slice_index order p ≡ i) = place_of (length ms) order permuted i h in
+        let q : (q : ℕ) × (q < length order) × (slice_index order q ≡ j) = place_of (length ms) order permuted j h' in
         elim (cases_lt p.0 q.0) [
           | inl l ↦ inl (subst (λ x. follow_at ms x j ≡ true) p.2 (subst (λ x. follow_at ms (slice_index order p.0) x ≡ true) q.2
               (subst (λ x. follow_at ms (slice_index order p.0) (slice_index order x) ≡ true) (let e : p.0 + suc (q.0 - suc p.0) ≡ q.0 = omega arith in e) (further (q.0 - suc p.0) p.0 (let l' : q.0 < length order = q.1 in omega arith)))))
@@ -188,7 +154,7 @@ none_found : (p : ℕ × Member → Bool) (xs : List (ℕ × Member)) → ((j : 
 none_found p [] all = refl
 none_found p (x ∷ xs) all = ap (λ b. cond b (Some x) (find p xs)) (all 0 x (omega arith)) ∙ none_found p xs (λ j d h. all (suc j) d (omega arith))
 
-no_first : (xs : List (ℕ × Member)) → ((i j : ℕ) (d : ℕ × Member) → i < j → j < length xs → conflict (get_or xs i d) (get_or xs j d) ≡ false) → first_conflict xs ≡ None
+pub no_first : (xs : List (ℕ × Member)) → ((i j : ℕ) (d : ℕ × Member) → i < j → j < length xs → conflict (get_or xs i d) (get_or xs j d) ≡ false) → first_conflict xs ≡ None
 no_first [] all = refl
 no_first (x ∷ xs) all =
     ap (λ o. or_else (option_map (λ (other : ℕ × Member). (x.0, other.0)) o) (first_conflict xs)) (none_found (conflict x) xs (λ j d h. all 0 (suc j) d (omega arith) (omega arith)))

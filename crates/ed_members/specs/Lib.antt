@@ -1,3 +1,9 @@
 pub mod Apart
 pub mod Faults
 pub mod Starts
+pub mod Rising
+pub mod Steps
+pub mod Moving
+pub mod Sorted
+pub mod Advance
+pub mod Nexts

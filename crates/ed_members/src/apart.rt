@@ -1,37 +1,14 @@
 //! A quick look whether members stand apart: sorted by source and start, each has to end before the
 //! next begins.
-ghost use Rattle.std.specs.Prelude.{◌≡◌, ℕ, ◌+◌, ◌<◌, ◌^◌, true, length, IfOk, IsTrue, IsPermutation, slice_index, None};
+ghost use Rattle.std.specs.Prelude.{◌≡◌, ℕ, ◌+◌, ◌<◌, ◌^◌, true, length, IfOk, IsTrue, slice_index, None};
 ghost use Rattle.std.specs.List.{enumerate_from};
-ghost use Rattle.ed_base.specs.Numbers.{places};
 ghost use Rattle.ed_layers.specs.Order.{first_conflict};
 ghost use Rattle.ed_members.specs.Apart.{is_apart, follow_at};
 
 use crate::conflicts::ends_before;
+use crate::sorted::sorted;
 use ed_base::{Member, OutOfMemory, SpanMode};
 use std::alloc::Global;
-
-/// By source, then by start, then by end; literals first.
-fn key(members: &[Member], index: u32) -> (u64, u32, u32) {
-    match members.get(index as usize) {
-        Some(Member::Tracked { source, bounds, .. }) => {
-            (u64::from(source.0) + 1, bounds.start, bounds.len)
-        }
-        _ => (0, 0, 0),
-    }
-}
-
-/// The indices of the members, sorted by their keys.
-fn sorted(alloc: Global, members: &[Member]) -> Result<Vec<u32>, OutOfMemory>
-    requires { length members.now < 2 ^ 32 }
-    ensures { IfOk result (λ v. IsPermutation (places (length members.now)) v.items) }
-{
-    let mut order: Vec<u32> = Vec::new(alloc);
-    for index in 0..members.len() as u32 {
-        order.push(index)?;
-    }
-    order.sort_by_key(|index| key(members, *index))?;
-    Ok(order)
-}
 
 /// Whether the second of two members stands behind the first and apart from it.
 fn is_behind(a: &Member, b: &Member) -> bool

@@ -5,7 +5,7 @@ use ed_base::{Member, OutOfMemory, Units};
 use std::alloc::Global;
 
 /// A copy of the member. A literal's units are copied.
-fn copied(alloc: Global, member: &Member) -> Result<Member, OutOfMemory>
+pub fn copied(alloc: Global, member: &Member) -> Result<Member, OutOfMemory>
     ensures { IfOk result (λ m. m ≡ member.now) }
 {
     match member {

@@ -1,17 +1,23 @@
 //! Members of projections: texts of their own, and tracked spans of sources, in order on each
-//! source. They don't move with their sources yet: no call takes a step of a source.
+//! source, which go along when their sources step.
 #![tactic(auto)]
 
 mod apart;
 mod conflicts;
 mod copies;
 mod fault;
+mod held;
 mod members;
 mod modes;
+mod moving;
+mod nexts;
+mod sorted;
 mod starts;
+mod steps;
 #[cfg(test)]
 mod tests;
 
 pub use fault::MemberFault;
 pub use members::Members;
 pub use starts::are_short;
+pub use steps::{Owned, OwnedRun, SourceStep};

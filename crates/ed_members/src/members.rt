@@ -2,13 +2,19 @@
 ghost use Rattle.std.specs.Prelude.{◌≡◌, ◌+◌, ◌<◌, ◌≤◌, ◌^◌, ◌⊎◌, length, None, Some, IfErr, IsErrAnd, IfOk, MatchOption, slice_get};
 ghost use Rattle.ed_layers.specs.Order.{overlap_fault};
 ghost use Rattle.ed_layers.specs.Records.{member_len, members_len, placement};
+ghost use Rattle.std.specs.List.{All};
+ghost use Rattle.ed_layers.specs.Bounds.{members_after};
 ghost use Rattle.ed_members.specs.Faults.{first_fault, len_in, refusal_of, replaced};
+ghost use Rattle.ed_members.specs.Moving.{EndsInOld, EndsInNew, OwnInside, OwnInOrder};
+ghost use Rattle.ed_members.specs.Steps.{steps_seen};
 
 use crate::conflicts::conflicting;
 use crate::copies::put_copies;
 use crate::fault::MemberFault;
 use crate::modes::uncovered;
-use crate::starts::{len_of, starts_of};
+use crate::moving::moved_members;
+use crate::starts::{are_short, len_of, starts_of};
+use crate::steps::SourceStep;
 use ed_base::{BufferNo, Member, OutOfMemory, Span};
 use std::alloc::Global;
 use std::marker::Model;
@@ -93,6 +99,39 @@ impl Members {
     {
         let joined = self.joined(alloc, first, count, list)?;
         Members::of(alloc, joined, source_len)
+    }
+
+    /// The members of the carrier `me` after these steps of their sources, one step a source; a
+    /// source that isn't among them didn't step. A literal stays. A tracked member holds its units
+    /// that were kept and the units that it owns, and its new bounds are the least range that has
+    /// them all. A member that holds nothing is empty where its start goes, or before the next member
+    /// that holds something. An inclusive member covers its source.
+    ///
+    /// # Errors
+    ///
+    /// Memory was refused, or all members together would be 2^32 units or more.
+    pub fn advance(
+        &self,
+        alloc: Global,
+        me: BufferNo,
+        steps: &[SourceStep],
+    ) -> Result<Members, OutOfMemory>
+        requires within { All (EndsInOld (steps_seen steps.now)) self.now }
+        requires inside { OwnInside me (steps_seen steps.now) self.now }
+        requires order { OwnInOrder me (steps_seen steps.now) self.now }
+        ensures members { IfOk result (λ m. m ≡ members_after me (steps_seen steps.now) self.now) }
+        ensures within { IfOk result (λ m. All (EndsInNew (steps_seen steps.now)) m) }
+    {
+        let list = moved_members(alloc, me, self.list.as_slice(), steps)?;
+        if !are_short(&list) {
+            return Err(OutOfMemory);
+        }
+        let (starts, total) = starts_of(alloc, &list)?;
+        Ok(Members {
+            list,
+            starts,
+            total,
+        })
     }
 
     /// The list that results.

@@ -1,8 +1,14 @@
 //! Members that were put together by hand.
+ghost use Rattle.std.specs.Prelude.{◌≡◌, [], ◌∷◌, IfOk, IfSome, IsTrue};
+ghost use Rattle.std.specs.List.{All};
+ghost use Rattle.ed_members.specs.Moving.{EndsInOld};
+ghost use Rattle.ed_members.specs.Steps.{steps_seen};
+
 use crate::apart::are_apart;
+use crate::moving::moved_members;
 use crate::starts::starts_of;
-use crate::{MemberFault, Members, are_short};
-use ed_base::{BufferNo, Member, OutOfMemory, Span, SpanMode, Units};
+use crate::{MemberFault, Members, Owned, OwnedRun, SourceStep, are_short};
+use ed_base::{BufferNo, Change, Changes, Member, OutOfMemory, Span, SpanMode, Units};
 use std::alloc::Global;
 use std::test::Fail;
 
@@ -244,5 +250,216 @@ fn the_quick_look_sees_that_members_stand_apart(rt: HostRuntime) -> Result<(), F
     let list = list_of(alloc, &parts)?;
     assert!(rt; list.len() < 100);
     assert!(rt; are_apart(alloc, &list)?);
+    Ok(())
+}
+
+/// The carrier of the members.
+const ME: BufferNo = BufferNo(7);
+
+/// A step of a test: its source, the old length, and of its one change where it starts, how many
+/// units it takes away and how many it puts in.
+type Cut = (u32, u32, u32, u32, u32);
+
+/// A run of a test: its start and its length, the carrier and the member that own it.
+type Run = (u32, u32, u32, u32);
+
+/// The change, where it does something and lies in the text.
+fn changes_of(alloc: Global, cut: Cut) -> Result<Option<Changes>, OutOfMemory> {
+    let (_, old_len, start, len, put) = cut;
+    if old_len > 100 || start > old_len || len > old_len - start || put > 100 || len + put == 0 {
+        return Ok(None);
+    }
+    let text = Units::of(vec![in alloc; 120u16; put as usize]?);
+    let change = Change {
+        start,
+        old_len: len,
+        text,
+    };
+    let mut list = Vec::new(alloc);
+    list.push(change)?;
+    Ok(Some(Changes::of(alloc, old_len, list)?))
+}
+
+fn run_of(run: Run) -> OwnedRun {
+    let (start, len, carrier, member) = run;
+    OwnedRun {
+        span: Span { start, len },
+        carrier: BufferNo(carrier),
+        member,
+    }
+}
+
+/// These two runs, where they rise.
+fn owned_of(alloc: Global, one: Run, two: Run) -> Result<Option<Owned>, OutOfMemory> {
+    let (first, second) = (run_of(one), run_of(two));
+    let end = u64::from(first.span.start) + u64::from(first.span.len);
+    if end > u64::from(second.span.start) {
+        return Ok(None);
+    }
+    let mut list = Vec::new(alloc);
+    list.push(first)?;
+    list.push(second)?;
+    Ok(Some(Owned::of(list)))
+}
+
+/// Whether the member ends in the old text, if it is on the source that stepped.
+fn ends_in(step: &SourceStep, member: &Member) -> bool
+    ensures { IsTrue result → EndsInOld (steps_seen (step.now ∷ [])) member.now }
+{
+    match member {
+        Member::Literal(_) => true,
+        Member::Tracked { source, bounds, .. } => {
+            *source != step.source
+                || u64::from(bounds.start) + u64::from(bounds.len)
+                    <= u64::from(step.changes.old_len())
+        }
+    }
+}
+
+fn all_end_in(step: &SourceStep, members: &[Member]) -> bool
+    ensures { IsTrue result → All (EndsInOld (steps_seen (step.now ∷ []))) members.now }
+{
+    for member in members {
+        if !ends_in(step, member) {
+            return false;
+        }
+    }
+    true
+}
+
+/// The members after one step in which no one owns a place.
+fn tried_advance(alloc: Global, parts: &[Part], cut: Cut) -> Result<Members, MemberFault> {
+    let list = list_of(alloc, parts)?;
+    let Some(changes) = changes_of(alloc, cut)? else {
+        return Err(MemberFault::OutOfMemory);
+    };
+    let step = SourceStep {
+        source: BufferNo(cut.0),
+        changes,
+        owned: Owned::of(Vec::new(alloc)),
+    };
+    if list.len() > 100 || !are_short(&list) || !all_end_in(&step, &list) {
+        return Err(MemberFault::OutOfMemory);
+    }
+    let members = Members::of(alloc, list, &LENGTHS)?;
+    Ok(members.advance(alloc, ME, &[step])?)
+}
+
+/// The new list of members after one step in which these two runs are owned. That what a member
+/// owns lies inside and in order holds by the lists that are worked by hand.
+fn tried_owning(
+    alloc: Global,
+    parts: &[Part],
+    cut: Cut,
+    one: Run,
+    two: Run,
+) -> Result<Vec<Member>, MemberFault> {
+    let list = list_of(alloc, parts)?;
+    let (Some(changes), Some(owned)) = (changes_of(alloc, cut)?, owned_of(alloc, one, two)?) else {
+        return Err(MemberFault::OutOfMemory);
+    };
+    let step = SourceStep {
+        source: BufferNo(cut.0),
+        changes,
+        owned,
+    };
+    if list.len() > 100 || !all_end_in(&step, &list) {
+        return Err(MemberFault::OutOfMemory);
+    }
+    Ok(moved_members(alloc, ME, &list, &[step])?)
+}
+
+/// Whether the list is this one.
+fn list_is(list: &[Member], parts: &[Part]) -> bool {
+    if list.len() != parts.len() {
+        return false;
+    }
+    for i in 0..list.len() {
+        if parts.get(i) != Some(&part_of(&list[i])) {
+            return false;
+        }
+    }
+    true
+}
+
+#[test]
+fn a_deletion_empties_neighbours(rt: HostRuntime) -> Result<(), Fail> {
+    let parts = [
+        (Some(0), 5, 3, false),
+        (None, 0, 2, false),
+        (Some(0), 0, 3, false),
+        (Some(0), 5, 0, false),
+        (Some(1), 2, 4, false),
+        (Some(0), 3, 2, false),
+    ];
+    let members = tried_advance(rt.alloc(), &parts, (0, 10, 2, 4, 0))?;
+    let expected = [
+        (Some(0), 2, 2, false),
+        (None, 0, 2, false),
+        (Some(0), 0, 2, false),
+        (Some(0), 2, 0, false),
+        (Some(1), 2, 4, false),
+        (Some(0), 2, 0, false),
+    ];
+    assert!(rt; are(&members, &expected));
+    assert_eq!(rt; members.len(), 10);
+    Ok(())
+}
+
+#[test]
+fn an_inclusive_member_covers_the_new_text(rt: HostRuntime) -> Result<(), Fail> {
+    let parts = [(Some(1), 0, 10, true), (Some(0), 4, 1, false)];
+    let members = tried_advance(rt.alloc(), &parts, (1, 10, 10, 0, 3))?;
+    let expected = [(Some(1), 0, 13, true), (Some(0), 4, 1, false)];
+    assert!(rt; are(&members, &expected));
+    Ok(())
+}
+
+/// Two members that touch, with an empty one between them.
+const TOUCHING: [Part; 3] = [
+    (Some(0), 0, 2, false),
+    (Some(0), 2, 0, false),
+    (Some(0), 2, 2, false),
+];
+
+#[test]
+fn text_between_members_is_no_ones_without_an_owner(rt: HostRuntime) -> Result<(), Fail> {
+    let members = tried_advance(rt.alloc(), &TOUCHING, (0, 10, 2, 0, 3))?;
+    let expected = [
+        (Some(0), 0, 2, false),
+        (Some(0), 5, 0, false),
+        (Some(0), 5, 2, false),
+    ];
+    assert!(rt; are(&members, &expected));
+    Ok(())
+}
+
+#[test]
+fn owned_runs_widen_their_members(rt: HostRuntime) -> Result<(), Fail> {
+    let cut = (0, 10, 2, 0, 3);
+    let both = tried_owning(rt.alloc(), &TOUCHING, cut, (2, 1, 7, 0), (3, 2, 7, 2))?;
+    let expected = [
+        (Some(0), 0, 3, false),
+        (Some(0), 3, 0, false),
+        (Some(0), 3, 4, false),
+    ];
+    assert!(rt; list_is(&both, &expected));
+    let between = tried_owning(rt.alloc(), &TOUCHING, cut, (2, 2, 7, 1), (4, 1, 8, 2))?;
+    let expected = [
+        (Some(0), 0, 2, false),
+        (Some(0), 2, 2, false),
+        (Some(0), 5, 2, false),
+    ];
+    assert!(rt; list_is(&between, &expected));
+    Ok(())
+}
+
+#[test]
+fn an_owned_run_is_all_that_a_member_holds(rt: HostRuntime) -> Result<(), Fail> {
+    let parts = [(Some(0), 3, 2, false), (Some(0), 7, 1, false)];
+    let cut = (0, 10, 3, 2, 4);
+    let list = tried_owning(rt.alloc(), &parts, cut, (3, 1, 7, 0), (6, 1, 7, 0))?;
+    let expected = [(Some(0), 3, 4, false), (Some(0), 9, 1, false)];
+    assert!(rt; list_is(&list, &expected));
     Ok(())
 }

@@ -1,0 +1,11 @@
+pub mod Rising
+pub mod Components
+pub mod Showing
+pub mod SourceRuns
+pub mod Placing
+pub mod Origins
+pub mod Whole
+pub mod Long
+pub mod Walking
+pub mod Nexts
+pub mod Trying

@@ -1,0 +1,4 @@
+pub mod Texts
+pub mod Kept
+pub mod Records
+pub mod Planning

@@ -1,0 +1,35 @@
+-- The text of members over the texts of their sources.
+use Rattle.std.specs.Prelude.{◌≡◌, ℕ, ◌≤◌, List, [], ◌∷◌, length, map, flat_map, nat_eq, slice_range, Option, Some, None, MatchOption, unwrap_or, if◌then◌else◌}
+use Rattle.ed_base.specs.declared.piece.Member.{Member}
+use Rattle.ed_base.specs.Spans.{end_of}
+use Rattle.ed_layers.specs.SourceStep.{SourceStep}
+use Rattle.ed_version.specs.declared.snapshot.Snapshot.{Snapshot}
+
+-- a literal, or the part of the source's text between the bounds
+abbrev pub member_text : (ℕ → List ℕ) → Member → List ℕ
+member_text source_text (Member.Literal units) = units
+member_text source_text (Member.Tracked source bounds mode) = slice_range (source_text source) bounds.start (end_of bounds)
+
+abbrev pub text_over : (ℕ → List ℕ) → List Member → List ℕ
+text_over source_text members = flat_map (member_text source_text) members
+
+-- the text of a source among snapshots, and the versions that they are of
+abbrev pub found_text : List Snapshot → ℕ → Option (List ℕ)
+found_text [] b = None
+found_text (s ∷ ss) b = if nat_eq s.buffer b then Some s.text else found_text ss b
+
+abbrev pub text_in : List Snapshot → ℕ → List ℕ
+text_in snapshots b = unwrap_or (found_text snapshots b) []
+
+abbrev pub versions_of : List Snapshot → List (ℕ × ℕ)
+versions_of snapshots = map (λ s. (s.buffer, s.version)) snapshots
+
+-- no source stepped
+abbrev pub no_steps : ℕ → Option SourceStep
+no_steps b = None
+
+-- The source of a member is there: where it stepped with the text that the step leads to, else with one that has the member's bounds.
+abbrev pub HasSource : (ℕ → Option SourceStep) → List Snapshot → Member → Type 0
+HasSource steps snapshots (Member.Literal units) = Unit {0}
+HasSource steps snapshots (Member.Tracked source bounds mode) =
+    MatchOption (found_text snapshots source) ⊥ (λ t. MatchOption (steps source) (end_of bounds ≤ length t) (λ s. s.step.new_len ≡ length t))

@@ -1,0 +1,20 @@
+//! Projection buffers: versions that show texts of their own and spans of sources, each at one
+//! version.
+#![tactic(auto)]
+
+mod fault;
+mod gaps;
+mod kept;
+mod next;
+mod projection;
+mod runs;
+mod shown;
+mod sources;
+#[cfg(test)]
+mod tests;
+mod texts;
+
+pub use fault::ProjectionFault;
+pub use next::NextRecord;
+pub use projection::Projection;
+pub use shown::Shown;
