@@ -9,6 +9,11 @@ use Rattle.ed_machine.specs.Step.{step}
 
 -- The rules of the hooks are the same all along.
 module _ (hooks : HookTable) where
+  -- the state that the events of the entries leave
+  abbrev pub state_after : State → List Entry → State
+  state_after s [] = s
+  state_after s (e ∷ es) = state_after (step hooks s e.event).state es
+
   -- each reply is the one that the state at that point gives
   abbrev pub IsLegalFrom : State → List Entry → Type 0
   IsLegalFrom s [] = Unit {0}

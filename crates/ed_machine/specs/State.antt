@@ -1,25 +1,20 @@
--- The state: the names of all buffers, and each buffer with its versions.
-use Rattle.std.specs.Prelude.{ℕ, List, [], ◌∷◌, ◌++◌, slice_get, slice_set, position, Option, unwrap_or}
+-- The state of the editor.
+use Rattle.std.specs.Prelude.{ℕ, List, [], position, Option, unwrap_or}
 use Rattle.std.specs.Str.{bytes_eq}
-use Rattle.ed_base.specs.ChangeList.{ChangeList}
-use Rattle.ed_base.specs.Denial.{Region}
-use Rattle.ed_version.specs.declared.Version.{Version}
-use Rattle.ed_version.specs.Chain as chain
+use Rattle.ed_base.specs.Step.{Step}
+use Rattle.ed_layers.specs.Records.{Record}
+use Rattle.ed_stock.specs.Stock as stock
+use Rattle.ed_stock.specs.Stock.{Stock, Buffer, empty_stock}
 
--- A buffer: its versions by number, and the change list of each to the next. Its live read-only regions by number, and how many numbers were given.
-pub record Buffer : Type 0 where
-  pub versions : List Version
-  pub changes : List ChangeList
-  pub regions : List Region
-  pub regions_given : ℕ
-
--- the buffers by number, and their names
 pub record State : Type 0 where
+  -- the buffers, and their names
+  pub stock : Stock
   pub names : List (List ℕ)
-  pub buffers : List Buffer
+  -- the weights of all replies together
+  pub answered : ℕ
 
 abbrev pub empty_state : State
-empty_state = record { names = []; buffers = [] }
+empty_state = record { stock = empty_stock; names = []; answered = 0 }
 
 -- ---- names
 
@@ -31,34 +26,43 @@ number_of s name = position (bytes_eq name) s.names
 abbrev pub number : State → List ℕ → ℕ
 number s name = unwrap_or (number_of s name) 0
 
--- ---- buffers
-
-abbrev pub no_buffer : Buffer
-no_buffer = record { versions = []; changes = []; regions = []; regions_given = 0 }
+-- ---- looking up in the stock
 
 abbrev pub buffer : State → ℕ → Buffer
-buffer s b = unwrap_or (slice_get s.buffers b) no_buffer
+buffer s b = stock.buffer s.stock b
 
--- the current version, and its text
-abbrev pub now : Buffer → ℕ
-now x = chain.now x.versions
+-- the current version
+abbrev pub now : State → ℕ → ℕ
+now s b = stock.now s.stock b
 
-abbrev pub text_now : Buffer → List ℕ
-text_now x = chain.text_now x.versions
+abbrev pub record_at : State → ℕ → ℕ → Option Record
+record_at s b v = stock.record_at s.stock b v
 
--- the text of a version that is there
-abbrev pub text_at : Buffer → ℕ → List ℕ
-text_at x v = chain.text_at x.versions v
+abbrev pub record_now : State → ℕ → Record
+record_now s b = stock.record_now s.stock b
+
+abbrev pub text_at : State → ℕ → ℕ → List ℕ
+text_at s b v = stock.text_at s.stock b v
+
+abbrev pub text_now : State → ℕ → List ℕ
+text_now s b = stock.text_now s.stock b
+
+abbrev pub steps_of : State → ℕ → List Step
+steps_of s b = stock.steps_of s.stock b
+
+abbrev pub reiterated : State → ℕ → ℕ → ℕ
+reiterated s b v = stock.reiterated s.stock b v
+
+abbrev pub count : State → ℕ
+count s = stock.count s.stock
+
+abbrev pub graph_order : State → List ℕ
+graph_order s = stock.graph_order s.stock
 
 -- ---- changing the state
 
--- a buffer of one version
-abbrev pub new_buffer : List ℕ → Buffer
-new_buffer text = record { versions = chain.opening text; changes = []; regions = []; regions_given = 0 }
-
--- with one more buffer
-abbrev pub with_new : State → List ℕ → Buffer → State
-with_new s name x = record { names = s.names ++ name ∷ []; buffers = s.buffers ++ x ∷ [] }
+abbrev pub with_stock : State → Stock → State
+with_stock s x = record s { stock = x }
 
 abbrev pub with_buffer : State → ℕ → Buffer → State
-with_buffer s b x = record s { buffers = slice_set s.buffers b x }
+with_buffer s b x = with_stock s (stock.with_buffer s.stock b x)

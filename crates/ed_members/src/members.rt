@@ -134,8 +134,13 @@ impl Members {
         })
     }
 
-    /// The list that results.
-    fn joined(
+    /// The list of these members, but with those of the given list in place of `count` members from
+    /// `first` on. What stays is copied, a literal with its units.
+    ///
+    /// # Errors
+    ///
+    /// Memory was refused.
+    pub fn joined(
         &self,
         alloc: Global,
         first: u32,

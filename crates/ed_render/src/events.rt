@@ -19,7 +19,9 @@ fn command(line: &mut Line, command: &Command) -> Result<(), OutOfMemory>
 {
     match command {
         Command::Buffer { name, text: _ } => named(line, "buffer ", name),
+        Command::Projection { name, spans: _ } => named(line, "projection ", name),
         Command::Edit { buffer, .. } => named(line, "edit ", buffer),
+        Command::Spans { buffer, .. } => named(line, "spans ", buffer),
         Command::Region { buffer, .. } => named(line, "region ", buffer),
         Command::Unregion { buffer, .. } => named(line, "unregion ", buffer),
         Command::Readonly { buffer, .. } => named(line, "readonly ", buffer),

@@ -6,5 +6,7 @@ mod lines;
 mod push;
 mod refusals;
 mod replies;
+#[cfg(test)]
+mod tests;
 
 pub use lines::line;

@@ -1,13 +1,15 @@
--- The history of one seat that works alone is legal, and so is each beginning of it.
-use Rattle.std.proofs.Common.{◌≡◌, List, [], ◌∷◌, ◌++◌, refl, sym, subst}
+-- The history of one seat that works alone is legal, and so is each beginning of it; the laws hold along it.
+use Rattle.std.proofs.Common.{◌≡◌, List, [], ◌∷◌, ◌++◌, refl, sym, ap, ◌∙◌, subst, append_assoc}
+use Rattle.std.proofs.lemmas.List.{append-nil}
 use Rattle.ed_base.specs.Hooks.{HookTable}
 use Rattle.ed_script.specs.declared.Command.{Command}
 use Rattle.ed_entry.specs.declared.Entry.{Entry}
 use Rattle.ed_machine.specs.State.{State, empty_state}
 use Rattle.ed_machine.specs.Step.{step}
-use Rattle.ed_machine.specs.History.{IsLegalFrom, IsLegal, alone_from, alone, after}
+use Rattle.ed_machine.specs.History.{IsLegalFrom, IsLegal, alone_from, alone, after, told}
 use Rattle.ed_run.specs.declared.report.Status.{Status}
 use Rattle.ed_run.specs.Calls.{DoneAs}
+use Rattle.ed_run.specs.Lawful.{AreLawful, AreLawfulFrom, Obeys}
 
 module _ (hooks : HookTable) where
   alone-legal : (s : State) (cs : List Command) → IsLegalFrom hooks s (alone_from hooks s cs)
@@ -28,3 +30,17 @@ module _ (hooks : HookTable) where
   legal_done Status.ReadFault entries cs done = same entries [] done tt
   legal_done Status.WriteFault entries cs done = same entries (alone hooks cs) done (alone-legal empty_state cs)
   legal_done Status.Memory entries cs done = beginning empty_state entries done.0 (let P : List Entry → Type 0 = IsLegal hooks in subst P (sym done.1) (alone-legal empty_state cs))
+
+  -- ---- the laws
+
+  -- what is so of all that may come after the entries
+  abbrev Goes : State → List Entry → Type 0
+  Goes s entries = (es : List Entry) → AreLawfulFrom hooks s es → AreLawful hooks (entries ++ es)
+
+  pub lawful_told : (s s' : State) (entries entries' : List Entry) (c : Command) → Goes s entries → s' ≡ after hooks s c → entries' ≡ entries ++ told hooks s c ∷ [] → Obeys s s' → Goes s' entries'
+  lawful_told s s' entries entries' c so is added obeys es lawful =
+      subst (AreLawful hooks) (sym (ap (λ xs. xs ++ es) added ∙ append_assoc entries (told hooks s c ∷ []) es))
+      (so (told hooks s c ∷ es) (subst (Obeys s) is obeys, subst (λ x. AreLawfulFrom hooks x es) is lawful))
+
+  pub lawful_done : (s : State) (entries : List Entry) → Goes s entries → AreLawful hooks entries
+  lawful_done s entries so = subst (AreLawful hooks) (append-nil entries) (so [] tt)

@@ -1,10 +1,4 @@
-pub mod Names
-pub mod Edits
 pub mod Moving
 pub mod Legal
 pub mod Replays
 pub mod Rendered
-pub mod Between
-pub mod Answering
-pub mod Removing
-pub mod Planned

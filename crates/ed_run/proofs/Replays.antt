@@ -14,6 +14,7 @@ use Rattle.ed_run.specs.declared.report.Status.{Status}
 use Rattle.ed_run.specs.Calls.{Call, ReadFailed, WriteFailed}
 use Rattle.ed_run.specs.Replaying.{ending, EndsAs, Performs, Plays}
 use Rattle.ed_run.specs.Headline.{HasCause, Replays}
+use Rattle.ed_run.specs.Lawful.{AreLawful}
 use Rattle.ed_run.proofs.Moving.{front_of_none}
 use Rattle.ed_run.proofs.Legal.{legal_done}
 
@@ -54,12 +55,13 @@ unmet read ended met e none = true-false (sym (met (ap (λ b. (script_of read b)
 
 -- ---- the whole
 
-pub played : (hooks : HookTable) (c : Call) (read : List ℕ) (ended : Bool) → Took c.left_before read c.left_after → (ended ≡ true → NoneLeft c.left_after) → ((script_of read ended).bad ≡ None → ended ≡ true) → Plays hooks read ended c.held_before c.held_after (WriteFailed c) c.status c.entries → Replays hooks c
-played hooks c read ended took end met plays = record {
+pub played : (hooks : HookTable) (c : Call) (read : List ℕ) (ended : Bool) → Took c.left_before read c.left_after → (ended ≡ true → NoneLeft c.left_after) → ((script_of read ended).bad ≡ None → ended ≡ true) → Plays hooks read ended c.held_before c.held_after (WriteFailed c) c.status c.entries → AreLawful hooks c.entries → Replays hooks c
+played hooks c read ended took end met plays lawful = record {
   read = read;
   ended = ended;
   took = took;
   legal = legal_done hooks c.status c.entries (script_of read ended).commands plays.done;
+  lawful = lawful;
   lines = plays.lines;
   commands = plays.done;
   end_met = end;
@@ -75,6 +77,7 @@ unread hooks c read took failed same fault none = record {
   ended = false;
   took = took;
   legal = rw none tt;
+  lawful = subst (AreLawful hooks) (sym none) tt;
   lines = rw (fault, none, same) (Appends-nil c.held_before);
   commands = rw fault none;
   end_met = λ e. absurd (true-false (sym e));
@@ -90,6 +93,7 @@ forgotten hooks c read took same memory none = record {
   ended = false;
   took = took;
   legal = rw none tt;
+  lawful = subst (AreLawful hooks) (sym none) tt;
   lines = rw (memory, same) (front_of_none c.held_before (render c.entries));
   commands = rw (memory, none) (alone hooks (script_of read false).commands, refl);
   end_met = λ e. absurd (true-false (sym e));

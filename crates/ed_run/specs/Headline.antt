@@ -7,6 +7,7 @@ use Rattle.ed_script.specs.Script.{script_of}
 use Rattle.ed_machine.specs.History.{IsLegal, alone}
 use Rattle.ed_render.specs.Lines.{render}
 use Rattle.ed_run.specs.declared.report.Status.{Status}
+use Rattle.ed_run.specs.Lawful.{AreLawful}
 use Rattle.ed_run.specs.Calls.{Call, ReadFailed, WriteFailed, WrittenAs, DoneAs}
 
 -- When each status may come. `bad` is the first bad line that the bytes read name.
@@ -23,8 +24,9 @@ pub record Replays (hooks : HookTable) (c : Call) : Type 0 where
   pub read : List ℕ
   pub ended : Bool
   pub took : Took c.left_before read c.left_after
-  -- the entries are a legal history, and what was written is their lines
+  -- the entries are a legal history, in each state of which the laws of versions hold, and what was written is their lines
   pub legal : IsLegal hooks c.entries
+  pub lawful : AreLawful hooks c.entries
   pub lines : WrittenAs c.status (render c.entries) c.held_before c.held_after
   -- they are those of the commands of the bytes read, told one after another
   pub commands : DoneAs c.status c.entries (alone hooks (script_of read ended).commands)

@@ -2,9 +2,6 @@
 //! standard output.
 #![tactic(auto)]
 
-mod document;
-mod editing;
-mod editor;
 mod hooks;
 mod replay;
 mod report;
@@ -12,7 +9,6 @@ mod run;
 mod telling;
 #[cfg(test)]
 mod tests;
-mod tracking;
 mod writing;
 
 use ed_base::{Edges, VersionNo};

@@ -4,6 +4,7 @@ ghost use Rattle.ed_io.specs.Faults.{Rose};
 ghost use Rattle.ed_callbacks.specs.HookLists.{hook_table};
 ghost use Rattle.ed_machine.specs.History.{alone};
 ghost use Rattle.ed_run.specs.Headline.{Replays};
+ghost use Rattle.ed_run.specs.Lawful.{AreLawful};
 ghost use Rattle.ed_run.specs.Replaying.{Performs, Plays, ending};
 
 use crate::report::{Report, Status};
@@ -17,6 +18,7 @@ use std::alloc::Global;
 /// Does what a script tells, and writes what was answered.
 fn perform<O: Sink>(alloc: Global, hooks: &Hooks, script: Script, sink: &mut O) -> Report
     ensures performs { Performs (alone (hook_table hooks.now) script.commands.items) (O.held sink.old) (O.held sink.new) (ending script.bad) (Rose (O.faults sink.old) (O.faults sink.new)) result.status result.entries.items }
+    ensures lawful { AreLawful (hook_table hooks.now) result.entries.items }
     ensures later { O.faults sink.old ≤ O.faults sink.new }
 {
     let Script { commands, bad } = script;
@@ -60,6 +62,7 @@ fn nothing_done(alloc: Global, status: Status) -> Report
 /// Replays the script whose bytes these are.
 fn play<O: Sink>(alloc: Global, hooks: &Hooks, bytes: Vec<u8>, ended: bool, sink: &mut O) -> Report
     ensures plays { Plays (hook_table hooks.now) bytes.items ended (O.held sink.old) (O.held sink.new) (Rose (O.faults sink.old) (O.faults sink.new)) result.status result.entries.items }
+    ensures lawful { AreLawful (hook_table hooks.now) result.entries.items }
     ensures later { O.faults sink.old ≤ O.faults sink.new }
 {
     match read_script(alloc, bytes.as_slice(), ended) {

@@ -430,6 +430,63 @@ fn regions_deny_and_hooks_answer(rt: HostRuntime) -> Result<(), Fail> {
 }
 
 #[test]
+fn projections_follow_their_sources_and_take_new_members(rt: HostRuntime) -> Result<(), Fail> {
+    let rows = [
+        (
+            "{\"do\":\"buffer\",\"name\":\"a\",\"text\":\"abcd\"}",
+            "buffer a: made 0",
+        ),
+        (
+            "{\"do\":\"projection\",\"name\":\"c\",\"spans\":[\"<\",{\"in\":\"a\",\"start\":2,\"len\":2},\">\"]}",
+            "projection c: made 1",
+        ),
+        (
+            "{\"do\":\"projection\",\"name\":\"t\",\"spans\":[{\"in\":\"a\",\"start\":0,\"len\":2},{\"in\":\"c\",\"start\":1,\"len\":2}]}",
+            "projection t: made 2",
+        ),
+        (
+            "{\"do\":\"edit\",\"in\":\"a\",\"replaces\":[[1,2,\"XY\"]]}",
+            "edit a: edited 0@1 1@1 2@1",
+        ),
+        ("{\"do\":\"text\",\"in\":\"a\"}", "text a: 0@1 \"aXYd\""),
+        ("{\"do\":\"text\",\"in\":\"c\"}", "text c: 1@1 \"<d>\""),
+        ("{\"do\":\"text\",\"in\":\"t\"}", "text t: 2@1 \"ad\""),
+        (
+            "{\"do\":\"buffer\",\"name\":\"b\",\"text\":\"abcdef\"}",
+            "buffer b: made 3",
+        ),
+        (
+            "{\"do\":\"projection\",\"name\":\"p\",\"spans\":[{\"in\":\"b\",\"start\":0,\"len\":3}]}",
+            "projection p: made 4",
+        ),
+        (
+            "{\"do\":\"spans\",\"in\":\"p\",\"first\":1,\"count\":0,\"spans\":[\"-\",{\"in\":\"b\",\"start\":3,\"len\":3}]}",
+            "spans p: edited 4@1",
+        ),
+        (
+            "{\"do\":\"changes\",\"in\":\"p\",\"from\":0}",
+            "changes p: (3,0,\"-def\")",
+        ),
+        (
+            "{\"do\":\"spans\",\"in\":\"p\",\"first\":3,\"count\":1,\"spans\":[]}",
+            "spans p: refused 5 OutOfRange 4 3",
+        ),
+        (
+            "{\"do\":\"projection\",\"name\":\"q\",\"spans\":[{\"in\":\"p\",\"start\":0,\"len\":1}]}",
+            "projection q: made 5",
+        ),
+        (
+            "{\"do\":\"spans\",\"in\":\"p\",\"first\":0,\"count\":1,\"spans\":[{\"in\":\"q\",\"start\":0,\"len\":1}]}",
+            "spans p: refused 11 Cycle 5",
+        ),
+        ("{\"do\":\"text\",\"in\":\"p\"}", "text p: 4@1 \"abc-def\""),
+    ];
+    let (written, expected) = answers(&rt, rows.as_slice())?;
+    assert_eq!(rt; written, expected);
+    Ok(())
+}
+
+#[test]
 fn one_region_more_than_may_be_live(rt: HostRuntime) -> Result<(), Fail> {
     let mut script = String::new(rt.alloc());
     script.push_str(BUFFER)?;

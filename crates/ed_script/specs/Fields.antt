@@ -11,6 +11,7 @@ use Rattle.ed_base.specs.declared.PointMode.{PointMode}
 use Rattle.ed_base.specs.declared.SpanMode.{SpanMode}
 use Rattle.ed_base.specs.declared.EdgeMode.{EdgeMode}
 use Rattle.ed_base.specs.declared.SpanHow.{SpanHow}
+use Rattle.ed_base.specs.declared.ScriptSpan.{ScriptSpan}
 
 infixl 10 ◌>>=◌
 abbrev pub ◌>>=◌ : {A B : Type 0} → Option A → (A → Option B) → Option B
@@ -50,6 +51,15 @@ span_mode_of word =
 
 abbrev pub span_mode : Data → Option SpanMode
 span_mode d = as_str d >>= span_mode_of
+
+-- the modes that a member of a projection may have
+abbrev pub member_mode_of : List ℕ → Option SpanMode
+member_mode_of word =
+    if bytes_eq word (codes "exclusive") then Some SpanMode.EdgeExclusive
+    else (if bytes_eq word (codes "inclusive") then Some SpanMode.EdgeInclusive else None)
+
+abbrev pub member_mode : Data → Option SpanMode
+member_mode d = as_str d >>= member_mode_of
 
 abbrev pub edge_mode_of : List ℕ → Option EdgeMode
 edge_mode_of word =
@@ -108,6 +118,21 @@ replace d = as_array d >>= three
     three : Items → Option Replace
     three (item s (item l (item t no_items))) = three_fields s l t
     three _ = None
+
+-- an object that tells a span of a buffer, and whether it is to cover its source
+unfoldable pub tracked_span : Data → Option ScriptSpan
+tracked_span d =
+    if has_only (codes "in" ∷ codes "start" ∷ codes "len" ∷ codes "mode" ∷ []) d
+    then (required (codes "in") name d >>= λ b. required (codes "start") whole d >>= λ s. required (codes "len") whole d >>= λ l. defaulted SpanMode.EdgeExclusive (codes "mode") member_mode d >>= λ m. Some (ScriptSpan.Tracked b s l m))
+    else None
+
+-- a literal text, or a span of a buffer
+unfoldable pub script_span : Data → Option ScriptSpan
+script_span d = literal_or_tracked (text d)
+  where
+    literal_or_tracked : Option (List ℕ) → Option ScriptSpan
+    literal_or_tracked (Some units) = Some (ScriptSpan.Literal units)
+    literal_or_tracked None = tracked_span d
 
 -- by a mode or by a hook, and not by both
 abbrev pub one_way : Option SpanMode → Option (List ℕ) → Option SpanHow

@@ -6,7 +6,7 @@ use Rattle.serde_json.specs.Find.{as_str}
 use Rattle.ed_base.specs.declared.SpanMode.{SpanMode}
 use Rattle.ed_base.specs.declared.SpanHow.{SpanHow}
 use Rattle.ed_script.specs.declared.kinds.Command.{Command}
-use Rattle.ed_script.specs.Fields.{◌>>=◌, required, has_only, list_of, optional, defaulted, name, whole, text, replace, point_mode, span_mode, edge_mode, one_way}
+use Rattle.ed_script.specs.Fields.{◌>>=◌, required, has_only, list_of, optional, defaulted, name, whole, text, replace, script_span, point_mode, span_mode, edge_mode, one_way}
 
 abbrev in_ : Data → Option (List ℕ)
 in_ d = required (codes "in") name d
@@ -20,10 +20,22 @@ buffer_command d =
     then (required (codes "name") name d >>= λ n. required (codes "text") text d >>= λ t. Some (Command.Buffer n t))
     else None
 
+unfoldable pub projection_command : Data → Option Command
+projection_command d =
+    if has_only (codes "do" ∷ codes "name" ∷ codes "spans" ∷ []) d
+    then (required (codes "name") name d >>= λ n. required (codes "spans") (list_of script_span) d >>= λ ss. Some (Command.Projection n ss))
+    else None
+
 unfoldable pub edit_command : Data → Option Command
 edit_command d =
     if has_only (codes "do" ∷ codes "in" ∷ codes "replaces" ∷ codes "at" ∷ []) d
     then (in_ d >>= λ b. required (codes "replaces") (list_of replace) d >>= λ rs. at d >>= λ v. Some (Command.Edit b rs v))
+    else None
+
+unfoldable pub spans_command : Data → Option Command
+spans_command d =
+    if has_only (codes "do" ∷ codes "in" ∷ codes "first" ∷ codes "count" ∷ codes "spans" ∷ codes "at" ∷ []) d
+    then (in_ d >>= λ b. required (codes "first") whole d >>= λ f. required (codes "count") whole d >>= λ c. required (codes "spans") (list_of script_span) d >>= λ ss. at d >>= λ v. Some (Command.Spans b f c ss v))
     else None
 
 unfoldable pub region_command : Data → Option Command
@@ -90,7 +102,9 @@ span_command d =
 unfoldable pub by_word : List ℕ → Data → Option Command
 by_word word d =
     if bytes_eq word (codes "buffer") then buffer_command d
+    else (if bytes_eq word (codes "projection") then projection_command d
     else (if bytes_eq word (codes "edit") then edit_command d
+    else (if bytes_eq word (codes "spans") then spans_command d
     else (if bytes_eq word (codes "region") then region_command d
     else (if bytes_eq word (codes "unregion") then unregion_command d
     else (if bytes_eq word (codes "readonly") then readonly_command d
@@ -100,7 +114,7 @@ by_word word d =
     else (if bytes_eq word (codes "versions") then versions_command d
     else (if bytes_eq word (codes "point") then point_command d
     else (if bytes_eq word (codes "span") then span_command d
-    else None))))))))))
+    else None))))))))))))
 
 -- the command that a value is
 unfoldable pub command_of : Data → Option Command

@@ -9,8 +9,8 @@ ghost use Rattle.ed_script.specs.Fields as spec;
 ghost use Rattle.ed_base.specs.declared.SpanMode.{SpanMode};
 
 use ed_base::{
-    EdgeMode, Name, OutOfMemory, PointMode, Replace, ReplaceList, SharedList, SpanHow, SpanMode,
-    Units, VersionNo,
+    EdgeMode, Name, OutOfMemory, PointMode, Replace, ReplaceList, ScriptSpan, ScriptSpanList,
+    SharedList, SpanHow, SpanMode, Units, VersionNo,
 };
 use ed_units::to_units;
 use serde_json::{Map, Value};
@@ -204,6 +204,35 @@ pub fn span_mode_or_exclusive(value: &Value, key: &str) -> Option<SpanMode>
     }
 }
 
+fn member_mode(word: &str) -> Option<SpanMode>
+    ensures { result ≡ spec.member_mode_of word.now }
+{
+    match word {
+        "exclusive" => Some(SpanMode::EdgeExclusive),
+        "inclusive" => Some(SpanMode::EdgeInclusive),
+        _ => None,
+    }
+}
+
+fn member_mode_of(value: &Value) -> Option<SpanMode>
+    ensures { result ≡ spec.member_mode (view value.now) }
+{
+    match value.as_str() {
+        None => None,
+        Some(word) => member_mode(word),
+    }
+}
+
+/// The mode of a member under a key, and where it is absent the one that doesn't cover its source.
+fn member_mode_or_exclusive(value: &Value, key: &str) -> Option<SpanMode>
+    ensures { result ≡ spec.defaulted SpanMode.EdgeExclusive key.now spec.member_mode (view value.now) }
+{
+    match value.get(key) {
+        None => Some(SpanMode::EdgeExclusive),
+        Some(found) => member_mode_of(found),
+    }
+}
+
 fn edge_mode(word: &str) -> Option<EdgeMode>
     ensures { result ≡ spec.edge_mode_of word.now }
 {
@@ -329,5 +358,86 @@ pub fn replaces_at(
     match each_replace(alloc, items)? {
         None => Ok(None),
         Some(replaces) => Ok(Some(SharedList::of(alloc, replaces)?)),
+    }
+}
+
+/// A span of a named buffer.
+///
+/// # Errors
+///
+/// Memory was refused.
+#[tactic(auto, unfolding(crate::specs::Fields::tracked_span))]
+fn tracked_span(alloc: Global, value: &Value) -> Result<Option<ScriptSpan>, OutOfMemory>
+    ensures { IfOk result (λ o. o ≡ spec.tracked_span (view value.now)) }
+{
+    if !has_only(value, &["in", "start", "len", "mode"]) {
+        return Ok(None);
+    }
+    let Some(buffer) = name_at(alloc, value, "in")? else {
+        return Ok(None);
+    };
+    let Some(start) = whole_at(value, "start") else {
+        return Ok(None);
+    };
+    let Some(len) = whole_at(value, "len") else {
+        return Ok(None);
+    };
+    let Some(mode) = member_mode_or_exclusive(value, "mode") else {
+        return Ok(None);
+    };
+    Ok(Some(ScriptSpan::Tracked {
+        buffer,
+        start,
+        len,
+        mode,
+    }))
+}
+
+/// A member of a projection: a text, or a span of a named buffer.
+///
+/// # Errors
+///
+/// Memory was refused.
+#[tactic(auto, unfolding(crate::specs::Fields::script_span))]
+fn script_span(alloc: Global, value: &Value) -> Result<Option<ScriptSpan>, OutOfMemory>
+    ensures { IfOk result (λ o. o ≡ spec.script_span (view value.now)) }
+{
+    match text(alloc, value)? {
+        Some(units) => Ok(Some(ScriptSpan::Literal(units))),
+        None => tracked_span(alloc, value),
+    }
+}
+
+fn each_span(alloc: Global, items: &[Value]) -> Result<Option<Vec<ScriptSpan>>, OutOfMemory>
+    ensures { IfOk result (λ o. option_map (λ v. v.items) o ≡ spec.each_item spec.script_span (items_view items.now)) }
+{
+    let mut spans = Vec::new(alloc);
+    for item in items {
+        match script_span(alloc, item)? {
+            None => return Ok(None),
+            Some(found) => spans.push(found)?,
+        }
+    }
+    Ok(Some(spans))
+}
+
+/// The members of a projection under a key.
+///
+/// # Errors
+///
+/// Memory was refused.
+pub fn spans_at(
+    alloc: Global,
+    value: &Value,
+    key: &str,
+) -> Result<Option<ScriptSpanList>, OutOfMemory>
+    ensures { IfOk result (λ o. o ≡ spec.required key.now (spec.list_of spec.script_span) (view value.now)) }
+{
+    let Some(items) = array_at(value, key) else {
+        return Ok(None);
+    };
+    match each_span(alloc, items)? {
+        None => Ok(None),
+        Some(spans) => Ok(Some(SharedList::of(alloc, spans)?)),
     }
 }

@@ -1,6 +1,7 @@
 //! What a script can tell.
 use ed_base::{
-    EdgeMode, Name, PointMode, RegionNo, ReplaceList, SpanHow, SpanMode, Units, VersionNo,
+    EdgeMode, Name, PointMode, RegionNo, ReplaceList, ScriptSpanList, SpanHow, SpanMode, Units,
+    VersionNo,
 };
 
 /// A command of a script.
@@ -11,11 +12,26 @@ pub enum Command {
         name: Name,
         text: Units,
     },
+    /// Makes a projection that shows these members, one after another. Their spans are of the
+    /// current versions of their buffers.
+    Projection {
+        name: Name,
+        spans: ScriptSpanList,
+    },
     /// Edits a buffer. All replaces refer to its text before the edit. Where a version is named it
     /// has to be the current one.
     Edit {
         buffer: Name,
         replaces: ReplaceList,
+        at: Option<VersionNo>,
+    },
+    /// Replaces `count` members of a projection, from index `first` on, by these. Where a version is
+    /// named it has to be the current one.
+    Spans {
+        buffer: Name,
+        first: u32,
+        count: u32,
+        spans: ScriptSpanList,
         at: Option<VersionNo>,
     },
     /// Adds a read-only region to a buffer. Its span follows every version by the mode, and a query

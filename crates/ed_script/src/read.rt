@@ -11,7 +11,7 @@ ghost use Rattle.ed_script.specs.declared.bad.BadKind.{BadKind};
 use crate::bad::LineFault;
 use crate::fields::{
     edge_mode_at, has_only, name_at, name_if_there, point_mode_at, replaces_at, span_how,
-    span_mode_at, span_mode_or_exclusive, text_at, units_at, version_at, whole_at,
+    span_mode_at, span_mode_or_exclusive, spans_at, text_at, units_at, version_at, whole_at,
 };
 use crate::kinds::Command;
 use ed_base::{OutOfMemory, RegionNo, SpanHow, VersionNo};
@@ -34,6 +34,22 @@ fn buffer_command(alloc: Global, value: &Value) -> Result<Option<Command>, OutOf
     Ok(Some(Command::Buffer { name, text }))
 }
 
+#[tactic(auto, unfolding(crate::specs::Words::projection_command))]
+fn projection_command(alloc: Global, value: &Value) -> Result<Option<Command>, OutOfMemory>
+    ensures { IfOk result (λ o. o ≡ spec.projection_command (view value.now)) }
+{
+    if !has_only(value, &["do", "name", "spans"]) {
+        return Ok(None);
+    }
+    let Some(name) = name_at(alloc, value, "name")? else {
+        return Ok(None);
+    };
+    let Some(spans) = spans_at(alloc, value, "spans")? else {
+        return Ok(None);
+    };
+    Ok(Some(Command::Projection { name, spans }))
+}
+
 #[tactic(auto, unfolding(crate::specs::Words::edit_command))]
 fn edit_command(alloc: Global, value: &Value) -> Result<Option<Command>, OutOfMemory>
     ensures { IfOk result (λ o. o ≡ spec.edit_command (view value.now)) }
@@ -53,6 +69,37 @@ fn edit_command(alloc: Global, value: &Value) -> Result<Option<Command>, OutOfMe
     Ok(Some(Command::Edit {
         buffer,
         replaces,
+        at,
+    }))
+}
+
+#[tactic(auto, unfolding(crate::specs::Words::spans_command))]
+fn spans_command(alloc: Global, value: &Value) -> Result<Option<Command>, OutOfMemory>
+    ensures { IfOk result (λ o. o ≡ spec.spans_command (view value.now)) }
+{
+    if !has_only(value, &["do", "in", "first", "count", "spans", "at"]) {
+        return Ok(None);
+    }
+    let Some(buffer) = name_at(alloc, value, "in")? else {
+        return Ok(None);
+    };
+    let Some(first) = whole_at(value, "first") else {
+        return Ok(None);
+    };
+    let Some(count) = whole_at(value, "count") else {
+        return Ok(None);
+    };
+    let Some(spans) = spans_at(alloc, value, "spans")? else {
+        return Ok(None);
+    };
+    let Some(at) = version_at(value, "at") else {
+        return Ok(None);
+    };
+    Ok(Some(Command::Spans {
+        buffer,
+        first,
+        count,
+        spans,
         at,
     }))
 }
@@ -277,7 +324,9 @@ fn by_word(alloc: Global, word: &str, value: &Value) -> Result<Option<Command>, 
 {
     match word {
         "buffer" => buffer_command(alloc, value),
+        "projection" => projection_command(alloc, value),
         "edit" => edit_command(alloc, value),
+        "spans" => spans_command(alloc, value),
         "region" => region_command(alloc, value),
         "unregion" => unregion_command(alloc, value),
         "readonly" => readonly_command(alloc, value),

@@ -6,12 +6,12 @@ no : false ≡ true → ⊥
 no e = cc
 
 pub returns-in-End : goal.returns-in-End
-returns-in-End g c = played _ _ c.read_all-taken.result.bytes.items true c.read_all-taken.ensures.taken (λ e. c.read_all-taken.ensures.end c.in-End.is) (λ none. refl) c.play.ensures.plays
+returns-in-End g c = played _ _ c.read_all-taken.result.bytes.items true c.read_all-taken.ensures.taken (λ e. c.read_all-taken.ensures.end c.in-End.is) (λ none. refl) c.play.ensures.plays c.play.ensures.lawful
 
 pub returns-in-Limit : goal.returns-in-Limit
 returns-in-Limit g c =
     let long = c.read_all-taken.ensures.limit.0 c.in-Limit.is in
-    played _ _ c.read_all-taken.result.bytes.items false c.read_all-taken.ensures.taken (λ e. absurd (no e)) (λ none. absurd (too_long c.read_all-taken.result.bytes.items false (omega (arith, long, c.read_all-taken.result.bytes.ok.0)) none)) c.play-in-Limit.ensures.plays
+    played _ _ c.read_all-taken.result.bytes.items false c.read_all-taken.ensures.taken (λ e. absurd (no e)) (λ none. absurd (too_long c.read_all-taken.result.bytes.items false (omega (arith, long, c.read_all-taken.result.bytes.ok.0)) none)) c.play-in-Limit.ensures.plays c.play-in-Limit.ensures.lawful
 
 pub returns-in-Memory : goal.returns-in-Memory
 returns-in-Memory g c = forgotten _ _ c.read_all-taken.result.bytes.items c.read_all-taken.ensures.taken refl c.nothing_done-in-Memory.ensures.status c.nothing_done-in-Memory.ensures.entries

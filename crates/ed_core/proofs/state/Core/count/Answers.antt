@@ -1,0 +1,10 @@
+use Rattle.std.proofs.Common.{subst}
+use Rattle.ed_group.specs.Laws.{CurrentVector, OneVector}
+use Rattle.ed_machine.specs.State.{State}
+use Rattle.ed_core.proofs.state.Core.count.Goals as goal
+
+pub returns-clause-one : goal.returns-clause-one
+returns-clause-one c = subst (λ (s : State). OneVector s.stock) c.self.view_is c.count.ensures.one
+
+pub returns-clause-current : goal.returns-clause-current
+returns-clause-current c = subst (λ (s : State). CurrentVector s.stock) c.self.view_is c.count.ensures.current

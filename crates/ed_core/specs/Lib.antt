@@ -1,0 +1,6 @@
+pub mod Within
+pub mod Keeping
+pub mod Reading
+pub mod RegionOutcomes
+pub mod Deciding
+pub mod Asking

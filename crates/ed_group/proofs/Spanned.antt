@@ -1,0 +1,656 @@
+-- The start of the way of replaced spans: the projection has its version.
+use Rattle.std.proofs.Common.{◌≡◌, ◌≢◌, ℕ, zero, suc, ◌+◌, ◌-◌, ◌<◌, ◌≤◌, ◌^◌, Bool, true, false, ◌⊎◌, inl, inr, List, [], ◌∷◌, ◌++◌, length, map, Option, Some, None, refl, sym, ap, ◌∙◌, subst, arith, append_assoc, length-set}
+use Rattle.std.specs.Prelude.{filter, fold, max, slice_get, slice_set, unwrap_or, nat_eq, nat_lt, is_some, MatchOption, if◌then◌else◌}
+use Rattle.std.specs.Option.{option_map_or}
+use Rattle.std.specs.List.{AllByRecursion as Each, list_any, range_with_len}
+use Rattle.std.proofs.lemmas.Bool.{cases_eq, eqb-true, eq-eqb, ne_eqb, lt-ltb, ltb-true}
+use Rattle.std.proofs.lemmas.List.{length-map}
+use Rattle.ed_base.specs.declared.Member.{Member}
+use Rattle.ed_base.specs.declared.Refusal.{Refusal}
+use Rattle.ed_base.specs.declared.Which.{Which}
+use Rattle.ed_base.specs.Numbers.{first_some, is_among, places}
+use Rattle.ed_base.specs.Spans.{end_of}
+use Rattle.ed_base.specs.ChangeList.{change_list, step}
+use Rattle.ed_graph.proofs.Fuel.{within_rounds}
+use Rattle.ed_graph.specs.Standing.{IsLevelled, height_in, order_in, sources_in as graph_sources}
+use Rattle.ed_layers.specs.Cells.{text}
+use Rattle.ed_layers.specs.CarrierStep.{carrier_step, record_trails, stay_around}
+use Rattle.ed_layers.specs.Graph as order
+use Rattle.ed_layers.specs.Records.{Record, base, projection, elision, members_len, sources_of, version_in}
+use Rattle.ed_layers.specs.SourceStep.{SourceStep}
+use Rattle.ed_project.specs.Planning as projections
+use Rattle.ed_project.specs.Records.{Projection, Next, IsUnchanged, record_of, shown, shown_now, version_at}
+use Rattle.ed_project.specs.Texts.{no_steps, text_in, text_over}
+use Rattle.ed_project.specs.declared.Shown.{Shown}
+use Rattle.ed_stock.specs.Limits.{over, stock_limits}
+use Rattle.ed_stock.specs.Making.{sources_in, spans_replaced, spans_set}
+use Rattle.ed_stock.specs.Stock.{Stock, Buffer, buffer, count, graph_order, now, record_at, record_now, sources_now, text_at, text_now, with_buffer}
+use Rattle.ed_stock.specs.Versions.{Rising, at_now, is_moved, none_given, risen, risen_at, step_in, with_record, with_version}
+use Rattle.ed_group.specs.Answers.{LiesIn, members_now}
+use Rattle.ed_group.specs.declared.held.Held.{Held}
+use Rattle.ed_group.specs.declared.moves.Move.{Move}
+use Rattle.ed_group.specs.declared.moves.Planned.{Planned}
+use Rattle.ed_group.specs.Founded.{Founded, Extends}
+use Rattle.ed_group.specs.Group.{turned_in}
+use Rattle.ed_group.specs.Growing.{AreFounded, Grows}
+use Rattle.ed_group.specs.Moves.{CanMake, move_of, move_seen, rising_of, with_move}
+use Rattle.ed_group.specs.Rising.{EndsIn, HasStepped, Inside, IsNow, IsRisen, IsSettled, Rises, plain}
+use Rattle.ed_group.specs.Route.{AreTrue, Climbs, IsNewest}
+use Rattle.ed_group.specs.Seen.{known, seen, stock}
+use Rattle.ed_group.specs.Spanning.{below, spans_first, spans_route}
+use Rattle.ed_group.proofs.Advanced.{map_set, same_known}
+use Rattle.ed_group.proofs.AsMany.{most_all}
+use Rattle.ed_group.proofs.Climb.{among_itself, among_more, rising_to, snapshot_by, stepped_by}
+use Rattle.ed_group.proofs.FoundedLemmas.{each_version, each_weaker, founded_in, founded_of}
+use Rattle.ed_group.proofs.Growth.{missing, grown_extends, grown_founded, grown_last, grown_length, grown_now, grown_now_other, grown_record_now, grown_record_other, grown_text_now, same_growth, set_grows, set_here, set_other, version_grows}
+use Rattle.ed_group.proofs.InOrder.{Comes, order_all, order_comes}
+use Rattle.ed_group.proofs.Lengths.{Fits, length_slots, length_text_over, plain_trails}
+use Rattle.ed_group.proofs.Listed.{IsListed, all_listed, named_among}
+use Rattle.ed_group.proofs.Lists.{among_front, clash, each_both}
+use Rattle.ed_group.proofs.NewLimits.{each_none}
+use Rattle.ed_group.proofs.Refused.{among_behind, among_split, each_among, first_long, fold_append}
+use Rattle.ed_group.proofs.RisingSteps.{get_last, now_is_there}
+use Rattle.ed_group.proofs.Routes.{greatest_above}
+use Rattle.ed_group.proofs.Showing.{named_text, projection_text, same_text}
+use Rattle.ed_group.proofs.TooLong.{NamesStay, names_stay, text_stays}
+use Rattle.ed_group.proofs.Snapshots.{each_of, get_map, held_buffer, held_record, snap_there, snaps, snaps_text}
+
+-- ---- lists
+
+-- those of a range that pass a test
+passing : (test : ℕ → Bool) (p k c : ℕ) → is_among c (filter test (range_with_len p k)) ≡ true → (p ≤ c) × (c < p + k) × (test c ≡ true)
+passing test p zero c h = absurd (cc)
+passing test p (suc k) c h = by (test p) refl (passing test (p + 1) k c)
+  where
+    Found : ℕ → ℕ → Type 0
+    Found from len = (from ≤ c) × (c < from + len) × (test c ≡ true)
+
+    later : (p + 1 ≤ c) × (c < p + 1 + k) × (test c ≡ true) → (p ≤ c) × (c < p + suc k) × (test c ≡ true)
+    later r = ((let a : p + 1 ≤ c = r.0 in omega arith), (let a : c < p + 1 + k = r.1 in omega arith), r.2)
+
+    by : (t : Bool) → test p ≡ t → (is_among c (filter test (range_with_len (p + 1) k)) ≡ true → (p + 1 ≤ c) × (c < p + 1 + k) × (test c ≡ true)) → (p ≤ c) × (c < p + suc k) × (test c ≡ true)
+    by false t more = later (more (let e : is_among c (filter test (range_with_len p (suc k))) ≡ is_among c (filter test (range_with_len (p + 1) k)) = rw t refl in sym e ∙ h))
+    by true t more = elim (cases_eq c p) [
+      | inl e ↦ (omega arith, omega arith, ap test e ∙ t)
+      | inr ne ↦ later (more (let f : is_among c (filter test (range_with_len p (suc k))) ≡ is_among c (filter test (range_with_len (p + 1) k)) = rw (t, ne_eqb c p ne) refl in sym f ∙ h))
+    ]
+
+passes : (test : ℕ → Bool) (p k c : ℕ) → p ≤ c → c < p + k → test c ≡ true → is_among c (filter test (range_with_len p k)) ≡ true
+passes test p zero c from to t = absurd (omega arith)
+passes test p (suc k) c from to t = elim (cases_eq c p) [
+  | inl e ↦ rw (ap test (sym e) ∙ t, eq-eqb c p e) refl
+  | inr ne ↦ by (test p) refl (passes test (p + 1) k c (omega arith) (omega arith) t)
+]
+  where
+    by : (q : Bool) → test p ≡ q → is_among c (filter test (range_with_len (p + 1) k)) ≡ true → is_among c (filter test (range_with_len p (suc k))) ≡ true
+    by true q rest = rw q (among_more p c (filter test (range_with_len (p + 1) k)) rest)
+    by false q rest = rw q rest
+
+step_in_none : step_in [] ≡ no_steps
+step_in_none = λ i b. None
+
+-- a turn more of a buffer leaves all records
+pub turned_records : (t : Stock) (b : ℕ) → b < count t → (c : ℕ) → (buffer (turned_in t (Some b)) c).records ≡ (buffer t c).records
+turned_records t b there c = elim (cases_eq c b) [
+  | inl e ↦ subst (λ d. (buffer (turned_in t (Some b)) d).records ≡ (buffer t d).records) (sym e) (ap (λ o. (unwrap_or o missing).records) (set_here t.buffers b _ there))
+  | inr ne ↦ ap (λ o. (unwrap_or o missing).records) (set_other t.buffers b c _ ne)
+]
+
+-- ---- the way begins
+
+module _ (hs : List Held) (settled : IsSettled (stock hs)) (g : List (List ℕ)) (len : length g ≡ count (stock hs)) (levelled : IsLevelled g) (b : ℕ) (there : b < count (stock hs))
+    (others_are : (c : ℕ) → c ≢ b → graph_sources g c ≡ sources_now (stock hs) c) (members : List Member) (here_are : graph_sources g b ≡ sources_in [] members) (lies : Each (LiesIn (stock hs)) members) where
+  abbrev s : Stock
+  s = stock hs
+
+  abbrev h : ℕ → ℕ
+  h = height_in g
+
+  abbrev sources : List ℕ
+  sources = sources_in [] members
+
+  abbrev named : List (ℕ × ℕ)
+  named = map (λ c. (c, now (stock hs) c)) (sources_in [] members)
+
+  abbrev new : Record
+  new = projection members (map (λ c. (c, now (stock hs) c)) (sources_in [] members))
+
+  abbrev initial : List ℕ
+  initial = b ∷ below g b
+
+  -- a buffer that stands lower
+  abbrev Low : ℕ → Type 0
+  Low c = (c < count s) × (height_in g c < height_in g b)
+
+  not_b : (c : ℕ) → Low c → c ≢ b
+  not_b c low e = absurd (let l : height_in g c < height_in g b = low.1 in let f : height_in g c ≡ height_in g b = ap (height_in g) e in omega arith)
+
+  in_initial : (c : ℕ) → Low c → is_among c initial ≡ true
+  in_initial c low = among_more b c (below g b) (passes (λ d. nat_lt (height_in g d) (height_in g b)) 0 (length g) c (omega arith) (let l : c < count s = low.0 in omega (arith, len)) (lt-ltb (height_in g c) (height_in g b) low.1))
+
+  of_initial : (c : ℕ) → is_among c initial ≡ true → (c ≡ b) ⊎ Low c
+  of_initial c i = elim (cases_eq c b) [
+    | inl e ↦ inl e
+    | inr ne ↦ inr (low_of (passing (λ d. nat_lt (height_in g d) (height_in g b)) 0 (length g) c (let e : is_among c initial ≡ is_among c (below g b) = rw (ne_eqb c b ne) refl in sym e ∙ i)))
+  ]
+    where
+      low_of : (0 ≤ c) × (c < 0 + length g) × (nat_lt (height_in g c) (height_in g b) ≡ true) → Low c
+      low_of r = ((let l : c < 0 + length g = r.1 in omega (arith, len)), ltb-true (height_in g c) (height_in g b) r.2)
+
+  -- ---- what stands lower
+
+  pairs : (c : ℕ) (vs : List (ℕ × ℕ)) → Each (λ d. d < length g) (map (λ v. v.0) vs) → Each (λ d. height_in g d < height_in g c) (map (λ v. v.0) vs) → Each (λ v. (v.0 < count s) × (height_in g v.0 < height_in g c)) vs
+  pairs c [] w l = tt
+  pairs c (v ∷ vs) w l = ((subst (λ k. v.0 < k) len w.0, l.0), pairs c vs w.1 l.1)
+
+  below_sources : (c : ℕ) → c < count s → c ≢ b → Each (λ v. (v.0 < count s) × (height_in g v.0 < height_in g c)) (sources_of (record_now s c))
+  below_sources c in_ ne = pairs c (sources_of (record_now s c))
+      (subst (Each (λ d. d < length g)) (others_are c ne) (each_of (λ d. d < length g) (graph_sources g c) (levelled.within c [] (subst (λ k. c < k) (sym len) in_))))
+      (subst (Each (λ d. height_in g d < height_in g c)) (others_are c ne) (each_of (λ d. height_in g d < height_in g c) (graph_sources g c) (levelled.lower c)))
+
+  still_low : (c : ℕ) → Low c → Each (λ v. Low v.0) (sources_of (record_now s c))
+  still_low c low = each_weaker (λ (v : ℕ × ℕ). (v.0 < count s) × (height_in g v.0 < height_in g c)) (λ (v : ℕ × ℕ). Low v.0)
+      (λ v r. (r.0, (let l : height_in g v.0 < height_in g c = r.1 in let m : height_in g c < height_in g b = low.1 in omega arith))) (sources_of (record_now s c)) (below_sources c low.0 (not_b c low))
+
+  low_sources : Each Low sources
+  low_sources = each_both (λ d. d < length g) (λ d. height_in g d < height_in g b) Low (λ d i l. (subst (λ k. d < k) len i, l)) sources
+      (subst (Each (λ d. d < length g)) here_are (each_of (λ d. d < length g) (graph_sources g b) (levelled.within b [] (subst (λ k. b < k) (sym len) there))))
+      (subst (Each (λ d. height_in g d < height_in g b)) here_are (each_of (λ d. height_in g d < height_in g b) (graph_sources g b) (levelled.lower b)))
+
+  name_each : (P : ℕ × ℕ → Type 0) → ((c : ℕ) → Low c → P (c, now s c)) → (xs : List ℕ) → Each Low xs → Each P (map (λ c. (c, now s c)) xs)
+  name_each P all [] l = tt
+  name_each P all (x ∷ xs) l = (all x l.0, name_each P all xs l.1)
+
+  each_named : (P : ℕ × ℕ → Type 0) → ((c : ℕ) → Low c → P (c, now s c)) → Each P named
+  each_named P all = name_each P all sources low_sources
+
+  down : (k c : ℕ) → ((d : ℕ) → Low d → height_in g d < k → Founded (record_at s) k (d, now s d)) → height_in g c ≤ k → height_in g c < height_in g b → (vs : List (ℕ × ℕ)) → Each (IsNow s) vs → Each (λ v. (v.0 < count s) × (height_in g v.0 < height_in g c)) vs → Each (Founded (record_at s) k) vs
+  down k c deep le low [] i l = tt
+  down k c deep le low (v ∷ vs) i l =
+      (subst (λ w. Founded (record_at s) k (v.0, w)) (sym i.0) (deep v.0 (l.0.0, (let a : height_in g v.0 < height_in g c = l.0.1 in omega arith)) (let a : height_in g v.0 < height_in g c = l.0.1 in omega arith)), down k c deep le low vs i.1 l.1)
+
+  founded_low : (k c : ℕ) → Low c → height_in g c < k → Founded (record_at s) k (c, now s c)
+  founded_low zero c low under = absurd (omega arith)
+  founded_low (suc k) c low under =
+      founded_of (record_at s) k (c, now s c) (record_now s c) (now_is_there s c (settled.some c low.0))
+      (down k c (founded_low k) (omega arith) low.1 (sources_of (record_now s c)) (settled.current c low.0) (below_sources c low.0 (not_b c low)))
+
+  top : height_in g b ≤ 8
+  unfolding order.greatest_height
+  top = let a : height_in g b ≤ fold max 0 (map (height_in g) (places (length g))) = greatest_above (height_in g) 0 (length g) 0 b (omega arith) (omega (arith, len)) in omega (arith, levelled.shallow, a)
+
+  founded_named : (k : ℕ) → height_in g b ≤ k → Each (Founded (record_at s) k) named
+  founded_named k le = each_named (Founded (record_at s) k) (λ c low. founded_low k c low (let l : height_in g c < height_in g b = low.1 in omega arith))
+
+  at_now_by : (xs : List ℕ) → at_now s (map (λ c. (c, now s c)) xs) ≡ map (λ c. (c, now s c)) xs
+  at_now_by [] = refl
+  at_now_by (x ∷ xs) = ap (λ rest. (x, now s x) ∷ rest) (at_now_by xs)
+
+  abbrev units : List ℕ
+  units = text_over (text_in (snaps s named)) members
+
+  units_named : units ≡ text_over (named_text (record_at s) named) members
+  units_named = ap (λ f. text_over f members) (snaps_text s named ∙ ap (named_text (record_at s)) (at_now_by sources))
+
+  ends_here : (m : Member) → IsListed sources m → LiesIn s m → EndsIn s named m
+  ends_here (Member.Literal xs) l e = tt
+  ends_here (Member.Tracked source bounds mode) l e = (named_among (now s) sources source l, e.1)
+
+  inside_b : Inside s new
+  inside_b = each_both (IsListed sources) (LiesIn s) (EndsIn s named) ends_here members (all_listed members) lies
+
+  fits_here : (m : Member) → EndsIn s named m → Fits (text_in (snaps s named)) m
+  fits_here (Member.Literal xs) e = tt
+  fits_here (Member.Tracked source bounds mode) e = subst (λ x. end_of bounds ≤ length x) (sym (ap (λ o. unwrap_or o []) (snap_there s named source (now s source) e.0))) e.1
+
+  pub units_len : length units ≡ members_len members
+  units_len = length_text_over (text_in (snaps s named)) members (each_weaker (EndsIn s named) (Fits (text_in (snaps s named))) fits_here members inside_b)
+
+  -- ---- the stock with its version
+
+  module _ (u : Stock) (grows : Grows (stock hs) u b (projection members (map (λ c. (c, now (stock hs) c)) (sources_in [] members)))) where
+    founded_then : AreFounded u
+    founded_then = grown_founded s u b new grows settled.founded (founded_named 8 top)
+
+    extends_then : Extends (record_at s) (record_at u)
+    extends_then = grown_extends s u b new grows
+
+    now_still : (c : ℕ) → Low c → now u c ≡ now s c
+    now_still c low = grown_now_other s u b new grows c (not_b c low)
+
+    text_still : (c : ℕ) → Low c → text_now u c ≡ text_now s c
+    text_still c low = grown_text_now s u b new grows settled.founded c (not_b c low) (settled.some c low.0)
+
+    record_still : (c : ℕ) → Low c → record_now u c ≡ record_now s c
+    record_still c low = grown_record_other s u b new grows c (not_b c low)
+
+    record_then : record_now u b ≡ new
+    record_then = grown_record_now s u b new grows
+
+    named_by : (c : ℕ) (o : Option ℕ) → version_in named c ≡ o → option_map_or (text (record_at u) c) o [] ≡ option_map_or (text (record_at s) c) o []
+    named_by c None found = refl
+    named_by c (Some v) found = same_text (record_at s) (record_at u) extends_then c v (each_version (Founded (record_at s) 9) named c v (founded_named 9 (let l : height_in g b ≤ 8 = top in omega arith)) found)
+
+    named_same : named_text (record_at u) named ≡ named_text (record_at s) named
+    named_same = λ i c. named_by c (version_in named c) refl i
+
+    text_defined : (x : ℕ → ℕ → Option Record) → x ≡ record_at u → text x b (length (buffer s b).records) ≡ units
+    text_defined x is = ap (λ y. text y b (length (buffer s b).records)) is
+        ∙ projection_text (record_at u) b (length (buffer s b).records) members named (grown_last s u b new grows)
+        (each_weaker (Founded (record_at s) 8) (Founded (record_at u) 8) (founded_in (record_at s) (record_at u) extends_then 8) named (founded_named 8 top))
+        ∙ ap (λ f. text_over f members) named_same ∙ sym units_named
+
+    shown_then : text_now u b ≡ units
+    shown_then = ap (text_at u b) (grown_now s u b new grows) ∙ text_defined (record_at u) refl
+
+    low_then : (c : ℕ) → is_among c initial ≡ true → Each (λ v. Low v.0) (sources_of (record_now u c))
+    low_then c i = elim (of_initial c i) [
+      | inl e ↦ subst (λ d. Each (λ v. Low v.0) (sources_of (record_now u d))) (sym e) (subst (λ x. Each (λ v. Low v.0) (sources_of x)) (sym record_then) (each_named (λ v. Low v.0) (λ d low. low)))
+      | inr low ↦ subst (λ x. Each (λ v. Low v.0) (sources_of x)) (sym (record_still c low)) (still_low c low)
+    ]
+
+    ends_then : (vs : List (ℕ × ℕ)) → Each (λ v. Low v.0) vs → (m : Member) → EndsIn s vs m → EndsIn u vs m
+    ends_then vs low (Member.Literal xs) e = tt
+    ends_then vs low (Member.Tracked source bounds mode) e =
+        let l : Low source = each_version (λ v. Low v.0) vs source (now s source) low e.0 in
+        (e.0 ∙ ap Some (sym (now_still source l)), subst (λ xs. end_of bounds ≤ length xs) (sym (text_still source l)) e.1)
+
+    inside_then : (x : Record) → Each (λ v. Low v.0) (sources_of x) → Inside s x → Inside u x
+    inside_then (base xs reiterated) low i = tt
+    inside_then (projection ms vs) low i = each_weaker (EndsIn s vs) (EndsIn u vs) (ends_then vs low) ms i
+    inside_then (elision flags source version) low i = absurd i
+
+    risen_b : IsRisen u h initial b
+    risen_b = record {
+      closed = each_weaker (λ (v : ℕ × ℕ). Low v.0) (λ v. is_among v.0 initial ≡ true) (λ v low. in_initial v.0 low) (sources_of (record_now u b)) (low_then b (among_itself b (below g b)));
+      current = subst (λ x. Each (IsNow u) (sources_of x)) (sym record_then) (each_named (IsNow u) (λ c low. sym (now_still c low)));
+      shallow = founded_of (record_at u) (h b) (b, now u b) (record_now u b) (now_is_there u b (let l : length (buffer u b).records ≡ suc (length (buffer s b).records) = grown_length s u b new grows in omega arith))
+          (subst (λ x. Each (Founded (record_at u) (h b)) (sources_of x)) (sym record_then)
+          (each_weaker (Founded (record_at s) (h b)) (Founded (record_at u) (h b)) (founded_in (record_at s) (record_at u) extends_then (h b)) named (founded_named (h b) (omega arith))));
+      inside = subst (Inside u) (sym record_then) (inside_then new (each_named (λ v. Low v.0) (λ d low. low)) inside_b);
+    }
+
+    risen_low : (c : ℕ) → Low c → IsRisen u h initial c
+    risen_low c low = record {
+      closed = each_weaker (λ (v : ℕ × ℕ). Low v.0) (λ v. is_among v.0 initial ≡ true) (λ v l. in_initial v.0 l) (sources_of (record_now u c)) (low_then c (in_initial c low));
+      current = subst (λ x. Each (IsNow u) (sources_of x)) (sym (record_still c low))
+          (each_both (λ (v : ℕ × ℕ). Low v.0) (IsNow s) (IsNow u) (λ v l i. i ∙ sym (now_still v.0 l)) (sources_of (record_now s c)) (still_low c low) (settled.current c low.0));
+      shallow = subst (λ k. Founded (record_at u) (suc (h c)) (c, k)) (sym (now_still c low)) (founded_in (record_at s) (record_at u) extends_then (suc (h c)) (c, now s c) (founded_low (suc (h c)) c low (omega arith)));
+      inside = subst (Inside u) (sym (record_still c low)) (inside_then (record_now s c) (still_low c low) (settled.inside c low.0));
+    }
+
+  -- ---- the way begins
+
+  module _ (hs' : List Held) (true_ : AreTrue (map known hs)) (long : (d : ℕ) → d < count (stock hs) → length (text_now (stock hs) d) ≤ 2 ^ 22) (inside : b < length hs)
+      (p q : Projection) (turns : ℕ) (held : slice_get hs b ≡ Some (Held.Projection p turns)) (set : hs' ≡ slice_set hs b (Held.Projection q turns)) (same : IsUnchanged p q)
+      (n : Next) (planned : projections.IsPlanned q n) (members_are : n.members ≡ members) (names : n.sources ≡ map (λ c. (c, now (stock hs) c)) (sources_in [] members))
+      (text_made : n.snapshot.text ≡ text_over (text_in (snaps (stock hs) (map (λ c. (c, now (stock hs) c)) (sources_in [] members)))) members)
+      (stays : ℕ → Option ℕ) (made : projections.IsStep stays no_steps p n) (fits : members_len members ≤ 2 ^ 22) where
+    abbrev the_move : Move
+    the_move = record { buffer = b; planned = Planned.Projection n }
+
+    abbrev next : Record
+    next = projection n.members n.sources
+
+    abbrev u : Stock
+    u = with_move s the_move
+
+    next_is : next ≡ new
+    next_is = ap (λ ms. projection ms n.sources) members_are ∙ ap (projection members) names
+
+    grows_next : Grows s u b next
+    grows_next = version_grows s b next n.changes there
+
+    grows : Grows s u b new
+    grows = subst (Grows s u b) next_is grows_next
+
+    now_then : now u b ≡ length (buffer s b).records
+    now_then = grown_now s u b new grows
+
+    -- ---- what was shown
+
+    buffer_is : buffer s b ≡ seen (Held.Projection p turns)
+    buffer_is = held_buffer hs b (Held.Projection p turns) held
+
+    some_versions : 0 < length p.versions
+    some_versions = subst (λ k. 0 < k) (length-map p.versions record_of) (subst (λ (y : Buffer). 0 < length y.records) buffer_is (settled.some b there))
+
+    record_was : record_now s b ≡ record_of (shown_now p)
+    record_was = held_record hs b p turns held some_versions
+
+    versions_are : length (buffer s b).records ≡ length p.versions
+    versions_are = ap (λ (y : Buffer). length y.records) buffer_is ∙ length-map p.versions record_of
+
+    text_was : (shown_now p).text ≡ text_now s b
+    text_was =
+        let last : slice_get p.versions (length p.versions - 1) ≡ Some (shown_now p) = get_last p.versions some_versions (shown [] [] []) in
+        let kept : text_at s b (length p.versions - 1) ≡ (shown_now p).text =
+        true_.texts b (length p.versions - 1) (known (Held.Projection p turns)) (shown_now p).text (get_map known hs b (Held.Projection p turns) held) (get_map (λ v. v.text) p.versions (length p.versions - 1) (shown_now p) last) in
+        sym kept ∙ ap (λ k. text_at s b (k - 1)) (sym versions_are)
+
+    number : p.buffer ≡ b
+    number = true_.numbered b (known (Held.Projection p turns)) (get_map known hs b (Held.Projection p turns) held)
+
+    text_then : text_now u b ≡ n.snapshot.text
+    text_then = shown_then u grows ∙ sym text_made
+
+    -- ---- its step
+
+    from_len : (step n.changes).old_len ≡ length (text_now s b)
+    from_len =
+        let first : (step n.changes).old_len ≡ length (shown_now q).text = planned.from in
+        first ∙ ap (λ (vs : List Shown). length (version_at vs (length vs - 1)).text) same.versions ∙ ap length text_was
+
+    to_len : (step n.changes).new_len ≡ length (text_now u b)
+    unfolding carrier_step
+    to_len = ap (λ x. x.new_len) made.step ∙ length_slots n.members n.sources ∙ sym planned.long ∙ ap length (sym text_then)
+
+    stepped_b : HasStepped s u b (plain (step n.changes))
+    stepped_b = record { there = there; longer = grown_length s u b new grows; from = from_len; to = to_len; trails = refl }
+
+    -- ---- the same by the definitions
+
+    abbrev none : Rising
+    none = record { stock = s; moves = [] }
+
+    abbrev with_text : Stock
+    with_text = with_buffer s b (record (buffer s b) { records = (buffer s b).records ++ next ∷ [] })
+
+    text_same : text_at with_text b (length (buffer s b).records) ≡ n.snapshot.text
+    text_same = text_defined u grows (record_at with_text)
+        (same_growth s with_text u b next (set_grows s b next (record (buffer s b) { records = (buffer s b).records ++ next ∷ [] }) there refl) grows_next) ∙ sym text_made
+
+    step_is : step n.changes ≡ carrier_step stays (step_in []) (record_now s b) next
+    step_is = made.step ∙ ap (λ x. carrier_step stays no_steps x next) (sym record_was) ∙ ap (λ f. carrier_step stays f (record_now s b) next) (sym step_in_none)
+
+    changes_are : n.changes ≡ change_list (carrier_step stays (step_in []) (record_now s b) next) (text_at with_text b (length (buffer s b).records))
+    changes_are = made.changes
+        ∙ ap (λ x. change_list (carrier_step stays no_steps x next) n.snapshot.text) (sym record_was)
+        ∙ ap (λ f. change_list (carrier_step stays f (record_now s b) next) n.snapshot.text) (sym step_in_none)
+        ∙ ap (λ us. change_list (carrier_step stays (step_in []) (record_now s b) next) us) (sym text_same)
+
+    trails_are : record_trails b false (step_in []) next ≡ map (λ x. []) (places (step n.changes).new_len)
+    unfolding carrier_step
+    trails_are = plain_trails b (step_in []) (λ c x found. absurd (cc)) false next (step n.changes).new_len (sym (ap (λ x. x.new_len) step_is))
+
+    step_seen_is : (record { step = carrier_step stays (step_in []) (record_now s b) next; trails = record_trails b false (step_in []) next }) ≡ plain (step n.changes)
+    step_seen_is =
+        ap (λ x. stepped_by x (record_trails b false (step_in []) next)) (sym step_is)
+        ∙ ap (stepped_by (step n.changes)) trails_are
+
+    made_first : with_record none b stays next ≡ rising_of s (the_move ∷ [])
+    unfolding with_record
+    made_first =
+        ap (λ c. rising_to (with_version s b next c) ((b, stepped_by (carrier_step stays (step_in []) (record_now s b) next) (record_trails b false (step_in []) next)) ∷ [])) (sym changes_are)
+        ∙ ap (λ x. rising_to u ((b, x) ∷ [])) step_seen_is
+
+    pub first_is : spans_first s b stays members ≡ rising_of s (the_move ∷ [])
+    first_is = ap (λ x. with_record none b stays x) (sym next_is) ∙ made_first
+
+    -- ---- the one move
+
+    move_at : (c : ℕ) (m : SourceStep) → step_in (map move_seen (the_move ∷ [])) c ≡ Some m → (c ≡ b) × (m ≡ plain (step n.changes))
+    move_at c m e = by (nat_eq b c) refl e
+      where
+        by : (t : Bool) → nat_eq b c ≡ t → (if t then Some (plain (step n.changes)) else None) ≡ Some m → (c ≡ b) × (m ≡ plain (step n.changes))
+        by true t e = (sym (eqb-true b c t), (cc))
+        by false t e = absurd (cc)
+
+    step_none : (c : ℕ) → c ≢ b → step_in (map move_seen (the_move ∷ [])) c ≡ None
+    step_none c ne = ap (λ t. if t then Some (plain (step n.changes)) else None) (ne_eqb b c (λ e. ne (sym e)))
+
+    unmoved_ne : (c : ℕ) → step_in (map move_seen (the_move ∷ [])) c ≡ None → c ≢ b
+    unmoved_ne c e f = some_not_none (plain (step n.changes)) (sym (ap (λ t. if t then Some (plain (step n.changes)) else None) (eq-eqb b c (sym f))) ∙ e)
+      where
+        some_not_none : (m : SourceStep) → Some m ≡ None → ⊥
+        some_not_none m e = absurd (cc)
+
+    among_ne : (c : ℕ) (xs : List ℕ) → is_among c (b ∷ xs) ≡ false → c ≢ b
+    among_ne c xs out e = absurd (clash (is_among c (b ∷ xs)) (subst (λ d. is_among d (b ∷ xs) ≡ true) (sym e) (among_itself b xs)) out)
+
+    ne_among : (c : ℕ) → c ≢ b → is_among c (b ∷ []) ≡ false
+    ne_among c ne = rw (ne_eqb c b ne) refl
+
+    only_b : (c : ℕ) → is_among c (b ∷ []) ≡ true → c ≡ b
+    only_b c i = elim (cases_eq c b) [
+      | inl e ↦ e
+      | inr ne ↦ absurd (clash (is_among c (b ∷ [])) i (ne_among c ne))
+    ]
+
+    same_count : count u ≡ count s
+    unfolding with_version
+    same_count = length-set s.buffers b _
+
+    rises : Rises s h (b ∷ []) initial (rising_of s (the_move ∷ []))
+    rises = record {
+      same_count = same_count;
+      extends = extends_then u grows;
+      founded = founded_then u grows;
+      names = λ c out. ap (λ y. map (λ v. v.0) (sources_of y)) (grown_record_other s u b new grows c (among_ne c [] out));
+      started = λ c out. ne_among c (among_ne c (below g b) out);
+      unmoved = λ c e. grows.others c (unmoved_ne c e);
+      moved = λ c m e. (let f : (c ≡ b) × (m ≡ plain (step n.changes)) = move_at c m e in subst (HasStepped s u c) (sym f.1) (subst (λ d. HasStepped s u d (plain (step n.changes))) (sym f.0) stepped_b));
+      known = λ c i. elim (of_initial c i) [ inl e ↦ subst (λ d. d < count s) (sym e) there | inr low ↦ low.0 ];
+      later = λ c out. step_none c (among_ne c (below g b) out);
+      risen = λ c i. elim (of_initial c i) [ inl e ↦ subst (IsRisen u h initial) (sym e) (risen_b u grows) | inr low ↦ risen_low u grows c low ];
+    }
+
+    newest_b : IsNewest u the_move
+    newest_b =
+        ap (λ y. snapshot_by y n.snapshot.version n.snapshot.text) (planned.buffer ∙ same.buffer ∙ number)
+        ∙ ap (λ y. snapshot_by b y n.snapshot.text) (planned.version ∙ ap length same.versions ∙ sym versions_are ∙ sym now_then)
+        ∙ ap (snapshot_by b (now u b)) (sym text_then)
+
+    none_over : (vs : List (ℕ × ℕ)) → Each (λ v. Low v.0) vs → list_any (λ source. is_some (step_in (map move_seen (the_move ∷ [])) source)) (map (λ v. v.0) vs) ≡ false
+    none_over [] low = refl
+    none_over (v ∷ vs) low = rw (step_none v.0 (not_b v.0 low.0), none_over vs low.1) refl
+
+    fits_then : (c : ℕ) → c < count s → length (text_now u c) ≤ 2 ^ 22
+    fits_then c in_ = elim (cases_eq c b) [
+      | inl e ↦ subst (λ d. length (text_now u d) ≤ 2 ^ 22) (sym e) (subst (λ xs. length xs ≤ 2 ^ 22) (sym text_then) (subst (λ k. k ≤ 2 ^ 22) (sym (planned.long ∙ ap members_len members_are)) fits))
+      | inr ne ↦ subst (λ ys. length ys ≤ 2 ^ 22) (sym (grown_text_now s u b new grows settled.founded c ne (settled.some c in_))) (long c in_)
+    ]
+
+    pub spans_begin : Climbs (spans_route hs g b (spans_first s b stays members)) [] (b ∷ below g b) hs' (the_move ∷ [])
+    spans_begin = record {
+      same = ap (map known) set ∙ map_set known hs b (Held.Projection p turns) (Held.Projection q turns) held (same_known p q turns same);
+      rises = rises;
+      folded = first_is;
+      planned = (subst (λ o. MatchOption o ⊥ (λ y. CanMake y (Planned.Projection n))) (sym (ap (λ ys. slice_get ys b) set ∙ set_here hs b (Held.Projection q turns) inside)) planned, tt);
+      apart = (tt, tt);
+      known_buffers = (there, tt);
+      at_once = λ c i. i;
+      newest = (newest_b, tt);
+      quiet = λ c i. none_over (sources_of (record_now u c)) (low_then u grows c i);
+      begun = λ c i. subst (λ d. is_some (move_of (the_move ∷ []) d) ≡ true) (sym (only_b c i)) (rw (eq-eqb b b refl) refl);
+      origin = λ c i. inr i;
+      covers = λ c i. absurd (cc);
+      fits = fits_then;
+    }
+
+  -- ---- the way by the definitions, and a text that would be too long
+
+  module _ (stays : ℕ → Option ℕ) where
+    abbrev first : Rising
+    first = spans_first s b stays members
+
+    first_made : Grows s first.stock b new × (count first.stock ≡ count s) × (first.stock.most_buffers ≡ s.most_buffers)
+    unfolding with_record with_version
+    first_made = (version_grows s b new _ there, length-set s.buffers b _, refl)
+
+    grows_first : Grows s first.stock b new
+    grows_first = first_made.0
+
+    step_first : (c : ℕ) → c ≢ b → step_in first.moves c ≡ None
+    unfolding with_record
+    step_first c ne = rw (ne_eqb b c (λ e. ne (sym e))) refl
+
+    names_of : (xs : List ℕ) → map (λ (v : ℕ × ℕ). v.0) (map (λ c. (c, now s c)) xs) ≡ xs
+    names_of [] = refl
+    names_of (x ∷ xs) = ap (λ rest. x ∷ rest) (names_of xs)
+
+    names_first : (c : ℕ) → sources_now first.stock c ≡ graph_sources g c
+    names_first c = elim (cases_eq c b) [
+      | inl e ↦ subst (λ d. sources_now first.stock d ≡ graph_sources g d) (sym e) (ap (λ x. map (λ v. v.0) (sources_of x)) (record_then first.stock grows_first) ∙ names_of sources ∙ sym here_are)
+      | inr ne ↦ ap (λ x. map (λ v. v.0) (sources_of x)) (grown_record_other s first.stock b new grows_first c ne) ∙ sym (others_are c ne)
+    ]
+
+    same_names : sources_now first.stock ≡ graph_sources g
+    same_names = λ i c. names_first c i
+
+    none_in : (c : ℕ) → height_in g c ≤ height_in g b → (xs : List ℕ) → Each (λ d. height_in g d < height_in g c) xs → list_any (λ source. is_some (step_in first.moves source)) xs ≡ false
+    none_in c le [] l = refl
+    none_in c le (x ∷ xs) l = rw (step_first x (λ e. absurd (let a : height_in g x < height_in g c = l.0 in let f : height_in g x ≡ height_in g b = ap (height_in g) e in omega arith)), none_in c le xs l.1) refl
+
+    still : (c : ℕ) → height_in g c ≤ height_in g b → risen_at none_given first c ≡ first
+    still c le =
+        let none : is_moved first c ≡ false = ap (list_any (λ source. is_some (step_in first.moves source))) (names_first c) ∙ none_in c le (graph_sources g c) (each_of (λ d. height_in g d < height_in g c) (graph_sources g c) (levelled.lower c)) in
+        rw none refl
+
+    passed_still : (xs : List ℕ) → Each (λ c. height_in g c ≤ height_in g b) xs → fold (risen_at none_given) first xs ≡ first
+    passed_still [] h = refl
+    passed_still (x ∷ xs) h = ap (λ r. fold (risen_at none_given) r xs) (still x h.0) ∙ passed_still xs h.1
+
+    comes_at : (ys zs : List ℕ) (c : ℕ) → order_in g ≡ ys ++ c ∷ zs → Comes (height_in g) (length g) 0 (length g + 1) ys c
+    comes_at ys zs c split = order_comes (graph_sources g) (length g) ys c zs split
+
+    there_at : (ys zs : List ℕ) (c : ℕ) → order_in g ≡ ys ++ c ∷ zs → c < count s
+    there_at ys zs c split = subst (λ k. c < k) len (comes_at ys zs c split).there
+
+    cut_order : (ys : List ℕ) × (zs : List ℕ) × (order_in g ≡ ys ++ b ∷ zs)
+    cut_order = among_split b (order_in g) (order_all (graph_sources g) (length g) b (subst (λ k. b < k) (sym len) there) (within_rounds (graph_sources g) (length g) (length g) b))
+
+    module _ (within : first_some (stock_limits (stock hs)) ≡ None) (long : (d : ℕ) → d < count (stock hs) → length (text_now (stock hs) d) ≤ 2 ^ 22) (too_many : 2 ^ 22 < members_len members) (passed rest : List ℕ) (split : order_in g ≡ passed ++ b ∷ rest) where
+      abbrev final : Rising
+      final = fold (risen_at none_given) first (order_in g)
+
+      final_is : final ≡ fold (risen_at none_given) first rest
+      final_is =
+          ap (fold (risen_at none_given) first) split ∙ fold_append (risen_at none_given) first passed (b ∷ rest)
+          ∙ ap (λ r. fold (risen_at none_given) r (b ∷ rest)) (passed_still passed (comes_at passed rest b split).no_higher)
+          ∙ ap (λ r. fold (risen_at none_given) r rest) (still b (omega arith))
+
+      -- what comes behind
+      behind : (c : ℕ) → is_among c rest ≡ true → (ys : List ℕ) × (zs : List ℕ) × (order_in g ≡ (passed ++ b ∷ ys) ++ c ∷ zs)
+      behind c i =
+          let cut : (ys : List ℕ) × (zs : List ℕ) × (rest ≡ ys ++ c ∷ zs) = among_split c rest i in
+          (cut.0, cut.1, split ∙ ap (λ xs. passed ++ b ∷ xs) cut.2 ∙ sym (append_assoc passed (b ∷ cut.0) (c ∷ cut.1)))
+
+      rest_there : Each (λ c. c < count first.stock) rest
+      rest_there = each_among (λ c. c < count first.stock) rest (λ c i. let k : (ys : List ℕ) × (zs : List ℕ) × (order_in g ≡ (passed ++ b ∷ ys) ++ c ∷ zs) = behind c i in subst (λ m. c < m) (sym first_made.1) (there_at (passed ++ b ∷ k.0) k.1 c k.2))
+
+      once : (c : ℕ) → is_among c (passed ++ b ∷ []) ≡ true → is_among c rest ≡ true → ⊥
+      once c early late =
+          let k : (ys : List ℕ) × (zs : List ℕ) × (order_in g ≡ (passed ++ b ∷ ys) ++ c ∷ zs) = behind c late in
+          let e : (passed ++ b ∷ []) ++ k.0 ≡ passed ++ b ∷ k.0 = append_assoc passed (b ∷ []) k.0 in
+          clash (is_among c (passed ++ b ∷ k.0)) (subst (λ xs. is_among c xs ≡ true) e (among_front c (passed ++ b ∷ []) k.0 early)) (comes_at (passed ++ b ∷ k.0) k.1 c k.2).fresh
+
+      some_first : (c : ℕ) → c < count s → 0 < length (buffer first.stock c).records
+      some_first c in_ = elim (cases_eq c b) [
+        | inl e ↦ subst (λ d. 0 < length (buffer first.stock d).records) (sym e) (let l : length (buffer first.stock b).records ≡ suc (length (buffer s b).records) = grown_length s first.stock b new grows_first in omega arith)
+        | inr ne ↦ subst (λ xs. 0 < length xs) (sym (grows_first.others c ne)) (settled.some c in_)
+      ]
+
+      stays_text : (c : ℕ) → c < count s → is_among c (passed ++ b ∷ []) ≡ true → text_now final.stock c ≡ text_now first.stock c
+      stays_text c in_ early =
+          ap (λ r. text_now r.stock c) final_is
+          ∙ text_stays rest first c rest_there (founded_then first.stock grows_first c (now first.stock c) (let l : 0 < length (buffer first.stock c).records = some_first c in_ in omega arith)) (λ late. absurd (once c early late))
+
+      here_long : length (text_now final.stock b) ≡ members_len members
+      here_long = ap length (stays_text b there (among_behind b passed (b ∷ []) (among_itself b [])) ∙ shown_then first.stock grows_first) ∙ units_len
+
+      passed_short : (c : ℕ) → is_among c passed ≡ true → length (text_now final.stock c) ≤ 2 ^ 22
+      passed_short c i =
+          let cut : (ys : List ℕ) × (zs : List ℕ) × (passed ≡ ys ++ c ∷ zs) = among_split c passed i in
+          let at : order_in g ≡ cut.0 ++ c ∷ (cut.1 ++ b ∷ rest) = split ∙ ap (λ xs. xs ++ b ∷ rest) cut.2 ∙ append_assoc cut.0 (c ∷ cut.1) (b ∷ rest) in
+          let in_ : c < count s = there_at cut.0 (cut.1 ++ b ∷ rest) c at in
+          subst (λ xs. length xs ≤ 2 ^ 22) (sym (stays_text c in_ (among_front c passed (b ∷ []) i) ∙ grown_text_now s first.stock b new grows_first settled.founded c (other c i) (settled.some c in_))) (long c in_)
+        where
+          other : (c : ℕ) → is_among c passed ≡ true → c ≢ b
+          other c i e = absurd (clash (is_among b passed) (subst (λ d. is_among d passed ≡ true) e i) (comes_at passed rest b split).fresh)
+
+      -- ---- once the buffer has turned
+
+      abbrev left : Stock
+      left = turned_in final.stock (Some b)
+
+      stay : NamesStay first final
+      stay = subst (NamesStay first) (sym final_is) (names_stay rest first rest_there)
+
+      count_final : count final.stock ≡ count s
+      count_final = stay.same_count ∙ first_made.1
+
+      recs : (c : ℕ) → (buffer left c).records ≡ (buffer final.stock c).records
+      recs c = turned_records final.stock b (subst (λ k. b < k) (sym count_final) there) c
+
+      same_records : record_at left ≡ record_at final.stock
+      same_records = λ i c v. slice_get (recs c i) v
+
+      left_text : (c : ℕ) → text_now left c ≡ text_now final.stock c
+      left_text c = ap (λ f. text f c (now left c)) same_records ∙ ap (λ rs. text_at final.stock c (length rs - 1)) (recs c)
+
+      left_names : sources_now left ≡ graph_sources g
+      left_names = λ i c. (ap (λ (rs : List Record). map (λ v. v.0) (sources_of (unwrap_or (slice_get rs (length rs - 1)) (base [] 0)))) (recs c) ∙ stay.names c ∙ names_first c) i
+
+      left_count : count left ≡ count s
+      left_count = length-set final.stock.buffers b _ ∙ count_final
+
+      ordered : graph_order left ≡ passed ++ b ∷ rest
+      ordered = ap (λ f. order.graph_order f (count left)) left_names ∙ ap (order.graph_order (graph_sources g)) (left_count ∙ sym len) ∙ split
+
+      few : over Which.Buffers left.most_buffers (count left) ≡ None
+      few = ap (λ k. over Which.Buffers k (count left)) (most_all (order_in g) first ∙ first_made.2) ∙ ap (over Which.Buffers s.most_buffers) left_count ∙ (each_none (stock_limits s) within).0
+
+      left_long : first_some (stock_limits left) ≡ Some (Refusal.Limit Which.Units (members_len members))
+      left_long = first_long left passed rest b (members_len members) few ordered
+          (each_among (λ c. length (text_now left c) ≤ 2 ^ 22) passed (λ c i. subst (λ xs. length xs ≤ 2 ^ 22) (sym (left_text c)) (passed_short c i)))
+          (ap length (left_text b) ∙ here_long) too_many
+
+    -- the order of the graph as the stock has it then
+    pub first_order : graph_order first.stock ≡ order_in g
+    first_order = ap (λ f. order.graph_order f (count first.stock)) same_names ∙ ap (order.graph_order (graph_sources g)) (first_made.1 ∙ sym len)
+
+    pub order_there : Each (λ c. c < count first.stock) (order_in g)
+    order_there = each_among (λ c. c < count first.stock) (order_in g) (λ c i. let k : (ys : List ℕ) × (zs : List ℕ) × (order_in g ≡ ys ++ c ∷ zs) = among_split c (order_in g) i in subst (λ m. c < m) (sym first_made.1) (there_at k.0 k.1 c k.2))
+
+    -- the sources at the end of the way are those of the graph
+    pub names_left : sources_now (fold (risen_at none_given) first (order_in g)).stock ≡ graph_sources g
+    names_left = λ i c. ((names_stay (order_in g) first order_there).names c ∙ names_first c) i
+
+    pub all_there : Each (λ c. c < count (stock hs)) (order_in g)
+    all_there = subst (λ k. Each (λ c. c < k) (order_in g)) first_made.1 order_there
+
+    abbrev left_final : Rising
+    left_final = fold (risen_at none_given) (spans_first (stock hs) b stays members) (order_in g)
+
+    pub count_left : count left_final.stock ≡ count (stock hs)
+    count_left = (names_stay (order_in g) first order_there).same_count ∙ first_made.1
+
+    pub order_left : graph_order left_final.stock ≡ order_in g
+    order_left = ap (λ f. order.graph_order f (count left_final.stock)) names_left ∙ ap (order.graph_order (graph_sources g)) (count_left ∙ sym len)
+
+    pub few_left : over Which.Buffers (stock hs).most_buffers (count (stock hs)) ≡ None → over Which.Buffers left_final.stock.most_buffers (count left_final.stock) ≡ None
+    few_left within = ap (λ k. over Which.Buffers k (count left_final.stock)) (most_all (order_in g) first ∙ first_made.2) ∙ ap (over Which.Buffers s.most_buffers) count_left ∙ within
+
+    risen_long : first_some (stock_limits (stock hs)) ≡ None → ((d : ℕ) → d < count (stock hs) → length (text_now (stock hs) d) ≤ 2 ^ 22) → 2 ^ 22 < members_len members → first_some (stock_limits (turned_in (risen none_given first).stock (Some b))) ≡ Some (Refusal.Limit Which.Units (members_len members))
+    unfolding risen
+    risen_long within long too_many = ap (λ xs. first_some (stock_limits (turned_in (fold (risen_at none_given) first xs).stock (Some b)))) first_order ∙ left_long within long too_many cut_order.0 cut_order.1 cut_order.2
+
+  -- too long a text of the buffer itself is refused
+  pub spans_too_long : (from removed : ℕ) (added : List Member) → members ≡ spans_replaced (members_now (stock hs) b) from removed added → first_some (stock_limits (stock hs)) ≡ None → ((d : ℕ) → d < count (stock hs) → length (text_now (stock hs) d) ≤ 2 ^ 22) → 2 ^ 22 < members_len members
+      → first_some (stock_limits (spans_set (stock hs) b from removed added).stock) ≡ Some (Refusal.Limit Which.Units (members_len members))
+  unfolding spans_set
+  spans_too_long from removed added is within long too_many =
+      ap (λ ms. first_some (stock_limits (turned_in (risen none_given (spans_first s b (stay_around from removed (length added)) ms)).stock (Some b)))) (sym is) ∙ risen_long (stay_around from removed (length added)) within long too_many
+
+  -- what the definitions say of replaced spans is the way, and one turn more
+  pub spans_are : (from removed : ℕ) (added : List Member) → members ≡ spans_replaced (members_now (stock hs) b) from removed added → (r : Rising) → fold (risen_at none_given) (spans_first (stock hs) b (stay_around from removed (length added)) members) (order_in g) ≡ r
+      → spans_set (stock hs) b from removed added ≡ record { stock = turned_in r.stock (Some b); moves = r.moves }
+  unfolding spans_set risen
+  spans_are from removed added is r folded =
+      ap (λ ms. turned_rising (risen none_given (spans_first s b (stay_around from removed (length added)) ms))) (sym is)
+      ∙ ap (λ xs. turned_rising (fold (risen_at none_given) (spans_first s b (stay_around from removed (length added)) members) xs)) (first_order (stay_around from removed (length added)))
+      ∙ ap turned_rising folded
+    where
+      turned_rising : Rising → Rising
+      turned_rising u = record { stock = turned_in u.stock (Some b); moves = u.moves }

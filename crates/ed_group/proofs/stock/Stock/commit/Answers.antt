@@ -1,0 +1,29 @@
+use Rattle.std.proofs.Common.{ap, subst}
+use Rattle.ed_group.specs.Rising.{IsSettled}
+use Rattle.ed_group.specs.Seen.{stock}
+use Rattle.ed_group.proofs.Committed.{made_known, made_current, made_one, made_stay, made_stock}
+use Rattle.ed_group.proofs.stock.Stock.commit.Goals as goal
+
+pub returns-clause-stock : goal.returns-clause-stock
+returns-clause-stock c =
+    made_stock c.args.self.now _ c.args.group c.requires
+    (made_known c.args.self.now c.self.inside.buffers.items c.deref_mut.result.now c.carry_out.new.buffers c.self.inside.buffers.len c.group.inside.moves.items c.group.inside.turned c.args.group c.self.view_is c.deref_mut.ensures.value c.deref_mut.ensures.len
+    c.carry_out.ensures.len c.carry_out.ensures.known (ap (λ g. g.moves) c.group.view_is) (ap (λ g. g.turned) c.group.view_is))
+
+pub returns-clause-one : goal.returns-clause-one
+returns-clause-one c =
+    made_one c.args.self.now _ c.args.group c.requires
+    (made_known c.args.self.now c.self.inside.buffers.items c.deref_mut.result.now c.carry_out.new.buffers c.self.inside.buffers.len c.group.inside.moves.items c.group.inside.turned c.args.group c.self.view_is c.deref_mut.ensures.value c.deref_mut.ensures.len
+    c.carry_out.ensures.len c.carry_out.ensures.known (ap (λ g. g.moves) c.group.view_is) (ap (λ g. g.turned) c.group.view_is))
+
+pub returns-clause-current : goal.returns-clause-current
+returns-clause-current c =
+    made_current c.args.self.now _ c.args.group c.requires
+    (made_known c.args.self.now c.self.inside.buffers.items c.deref_mut.result.now c.carry_out.new.buffers c.self.inside.buffers.len c.group.inside.moves.items c.group.inside.turned c.args.group c.self.view_is c.deref_mut.ensures.value c.deref_mut.ensures.len
+    c.carry_out.ensures.len c.carry_out.ensures.known (ap (λ g. g.moves) c.group.view_is) (ap (λ g. g.turned) c.group.view_is))
+
+pub returns-clause-stay : goal.returns-clause-stay
+returns-clause-stay c =
+    made_stay c.args.self.now _ c.args.group c.requires
+    (made_known c.args.self.now c.self.inside.buffers.items c.deref_mut.result.now c.carry_out.new.buffers c.self.inside.buffers.len c.group.inside.moves.items c.group.inside.turned c.args.group c.self.view_is c.deref_mut.ensures.value c.deref_mut.ensures.len
+    c.carry_out.ensures.len c.carry_out.ensures.known (ap (λ g. g.moves) c.group.view_is) (ap (λ g. g.turned) c.group.view_is)) (subst (λ hs. IsSettled (stock hs)) c.self.view_is c.self.invariant.settled)

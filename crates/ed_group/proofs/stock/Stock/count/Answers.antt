@@ -1,0 +1,19 @@
+use Rattle.std.proofs.Common.{◌≡◌, subst, None}
+use Rattle.ed_base.specs.Numbers.{first_some}
+use Rattle.ed_stock.specs.Limits.{stock_limits}
+use Rattle.ed_group.specs.Seen.{stock}
+use Rattle.std.proofs.Common.{map}
+use Rattle.ed_group.specs.Kept.{IsKept}
+use Rattle.ed_group.specs.Laws.{OneVector}
+use Rattle.ed_group.specs.Seen.{known}
+use Rattle.ed_group.proofs.Lasting.{kept_current}
+use Rattle.ed_group.proofs.stock.Stock.count.Goals as goal
+
+pub returns-clause-within : goal.returns-clause-within
+returns-clause-within c = subst (λ hs. first_some (stock_limits (stock hs)) ≡ None) c.self.view_is c.self.invariant.within
+
+pub returns-clause-one : goal.returns-clause-one
+returns-clause-one c = subst (λ hs. OneVector (stock hs)) c.self.view_is c.self.invariant.one
+
+pub returns-clause-current : goal.returns-clause-current
+returns-clause-current c = kept_current c.args.self.now c.self.inside.graph c.self.inside.counts (subst (λ hs. IsKept (map known hs) c.self.inside.graph c.self.inside.counts) c.self.view_is c.self.invariant)

@@ -1,0 +1,80 @@
+-- The way of a group that replaces members of a projection.
+use Rattle.std.specs.Prelude.{◌≡◌, ℕ, ◌+◌, ◌≤◌, List, [], ◌∷◌, length, filter, nat_lt, slice_set, Option, Some, None, Result, IfOk, option_map}
+use Rattle.ed_base.specs.declared.Member.{Member}
+use Rattle.ed_base.specs.declared.Refusal.{Refusal}
+use Rattle.ed_base.specs.Numbers.{or_else, places}
+use Rattle.ed_graph.specs.declared.fault.LinkFault.{LinkFault}
+use Rattle.ed_graph.specs.Standing.{first_cycle, height_in, linked}
+use Rattle.ed_base.specs.declared.OutOfMemory.{OutOfMemory}
+use Rattle.ed_layers.specs.CarrierStep.{stay_around}
+use Rattle.ed_members.specs.Faults.{replaced}
+use Rattle.ed_project.specs.Planning.{IsPlanned, IsStep, added_in}
+use Rattle.ed_project.specs.Records.{IsUnchanged, Next, Projection, shown_now}
+use Rattle.ed_project.specs.Texts.{no_steps, text_in, text_over, versions_of}
+use Rattle.ed_stock.specs.Making.{projection_of}
+use Rattle.ed_stock.specs.Stock.{Stock}
+use Rattle.ed_stock.specs.Versions.{Rising, with_record}
+use Rattle.ed_version.specs.declared.Snapshot.{Snapshot}
+use Rattle.ed_group.specs.declared.held.Held.{Held}
+use Rattle.ed_group.specs.Placed.{too_deep}
+use Rattle.ed_group.specs.Route.{Route}
+
+-- the buffers that stand lower than this one
+abbrev pub below : List (List ℕ) → ℕ → List ℕ
+below g b = filter (λ c. nat_lt (height_in g c) (height_in g b)) (places (length g))
+
+-- The way over the new graph: the buffer alone may have other sources than before, and it and those that stand lower are done before the way begins.
+abbrev pub spans_route : List Held → List (List ℕ) → ℕ → Rising → Route
+spans_route hs g b first = record { before = hs; height = height_in g; start = b ∷ []; initial = b ∷ below g b; first = first }
+
+-- the buffer has its version with these members, of which those stay that `stays` has the old index of
+abbrev pub spans_first : Stock → ℕ → (ℕ → Option ℕ) → List Member → Rising
+spans_first s b stays members = with_record (record { stock = s; moves = [] }) b stays (projection_of s members)
+
+-- why the buffer can't stand on these sources: one of them stands on it, or else buffers would be stacked too high
+abbrev pub standing_fault : List (List ℕ) → ℕ → List ℕ → Option Refusal
+standing_fault g b sources = or_else (option_map Refusal.Cycle (first_cycle g b sources)) (too_deep (linked g b sources))
+
+-- the refusal of a fault
+abbrev pub refusal_of : LinkFault → Option Refusal
+refusal_of (LinkFault.Cycle via) = Some (Refusal.Cycle via)
+refusal_of (LinkFault.Depth height) = Some (Refusal.Depth height)
+refusal_of LinkFault.OutOfMemory = None
+
+-- ---- the version that shows other members
+
+-- the members of a buffer that is held
+abbrev pub held_members : Held → List Member
+held_members (Held.Base x) = []
+held_members (Held.Projection p turns) = (shown_now p).members
+
+-- the members are the current ones but for a part
+pub record IsPart (p : Projection) (first removed : ℕ) (members : List Member) : Type 0 where
+  pub part : first + removed ≤ length (shown_now p).members
+  pub others : members ≡ replaced (shown_now p).members first removed (added_in first removed (shown_now p).members members)
+
+-- the version shows these members over these snapshots, and a projection that has room for it can make it
+pub record Shows (sources : List Snapshot) (p q : Projection) (first removed : ℕ) (list : List Member) (n : Next) : Type 0 where
+  pub members : n.members ≡ list
+  pub versions : n.sources ≡ versions_of sources
+  pub text : n.snapshot.text ≡ text_over (text_in sources) n.members
+  pub step : IsStep (stay_around first removed (length (added_in first removed (shown_now p).members list))) no_steps p n
+  pub planned : IsPlanned q n
+
+pub record Respans (sources : List Snapshot) (p q : Projection) (first removed : ℕ) (members : List Member) (result : Result Next OutOfMemory) : Type 0 where
+  pub same : IsUnchanged p q
+  pub next : IfOk result (Shows sources p q first removed members)
+
+-- the same of a buffer that is held
+abbrev pub CanRespan : Held → ℕ → ℕ → List Member → Type 0
+CanRespan (Held.Base x) first removed members = ⊥
+CanRespan (Held.Projection p turns) first removed members = IsPart p first removed members
+
+abbrev pub HasRespanned : List Snapshot → Held → Held → ℕ → ℕ → List Member → Result Next OutOfMemory → Type 0
+HasRespanned sources (Held.Base x) new first removed members result = ⊥
+HasRespanned sources (Held.Projection p turns) new first removed members result = (q : Projection) × (new ≡ Held.Projection q turns) × Respans sources p q first removed members result
+
+-- the same of a buffer among those that are held: the others stay
+abbrev pub HasReshown : List Snapshot → List Held → List Held → ℕ → Held → ℕ → ℕ → List Member → Result Next OutOfMemory → Type 0
+HasReshown sources hs hs' b (Held.Base x) first removed members result = ⊥
+HasReshown sources hs hs' b (Held.Projection p turns) first removed members result = (q : Projection) × (hs' ≡ slice_set hs b (Held.Projection q turns)) × Respans sources p q first removed members result

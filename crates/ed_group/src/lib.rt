@@ -1,0 +1,31 @@
+//! All buffers and the graph that they make.
+#![tactic(auto)]
+
+mod adding;
+mod adding_up;
+mod climbing;
+mod counts;
+mod editing;
+mod fault;
+mod group;
+mod grouping;
+mod held;
+mod landing;
+mod limits;
+mod listing;
+mod making;
+mod moves;
+mod placing;
+mod reading;
+mod regions;
+mod rising;
+mod sources;
+mod spanning;
+mod spans;
+mod stock;
+#[cfg(test)]
+mod tests;
+
+pub use fault::PlanFault;
+pub use group::Group;
+pub use stock::Stock;

@@ -1,0 +1,118 @@
+//! How a group that was planned is made.
+ghost use Rattle.std.specs.Prelude.{◌≡◌, ◌≢◌, ℕ, List, length, map, fold, slice_get, Option, MatchOption};
+ghost use Rattle.std.specs.Option.{option_map_or};
+ghost use Rattle.std.specs.List.{AllByRecursion as Each};
+ghost use Rattle.ed_group.specs.Group.{IsPlanned, IsProjection, MayTurn, known_grown, known_made, known_moved, known_turned, outcome, set_known};
+ghost use Rattle.ed_group.specs.Laws.{CurrentVector, OneVector, RecordsStay};
+ghost use Rattle.ed_group.specs.Moves.{AreApart, CanMake, IsPlannedAt};
+ghost use Rattle.ed_group.specs.Seen.{known, stock};
+
+use crate::group::Group;
+use crate::held::Held;
+use crate::moves::{Move, Planned};
+use crate::stock::Stock;
+use ed_base::{BufferNo, VersionList};
+
+impl Held {
+    /// Makes a version that was planned of the buffer as it is. It takes no memory.
+    fn commit(&mut self, next: Move)
+        requires { CanMake self.old next.planned }
+        ensures known { known self.new ≡ known_grown (known self.old) next }
+        ensures turning { IsProjection self.old → IsProjection self.new }
+    {
+        match (self, next.planned) {
+            (Held::Base(base), Planned::Base(step)) => {
+                base.commit(step);
+            }
+            (Held::Projection { projection, .. }, Planned::Projection(step)) => {
+                projection.commit(step);
+            }
+            _ => unreachable!(),
+        }
+    }
+
+    /// One turn more of a projection.
+    fn turn(&mut self)
+        requires { IsProjection self.old }
+        ensures { known self.new ≡ known_turned (known self.old) }
+    {
+        match self {
+            Held::Base(_) => unreachable!(),
+            Held::Projection { turns, .. } => *turns += 1,
+        }
+    }
+}
+
+/// Makes a version that was planned.
+fn make(buffers: &mut [Held], next: Move)
+    requires { IsPlannedAt buffers.old next }
+    ensures len { length buffers.new ≡ length buffers.old }
+    ensures known { map known buffers.new ≡ known_moved (map known buffers.old) next }
+    ensures others { (b : ℕ) → next.buffer ≢ b → slice_get buffers.new b ≡ slice_get buffers.old b }
+    ensures turning { (b : ℕ) → MayTurn buffers.old b → MayTurn buffers.new b }
+{
+    let held = &mut buffers[next.buffer.0 as usize];
+    held.commit(next);
+}
+
+/// Makes versions that were planned, of buffers apart.
+fn make_all(buffers: &mut [Held], moves: Vec<Move>)
+    requires made { Each (IsPlannedAt buffers.old) moves.items }
+    requires apart { AreApart moves.items }
+    ensures len { length buffers.new ≡ length buffers.old }
+    ensures known { map known buffers.new ≡ fold known_moved (map known buffers.old) moves.items }
+    ensures turning { (b : ℕ) → MayTurn buffers.old b → MayTurn buffers.new b }
+{
+    for next in moves {
+        make(buffers, next);
+    }
+}
+
+/// One turn more of the projection that was turned, if one was.
+fn turn(buffers: &mut [Held], turned: Option<BufferNo>)
+    requires { MatchOption turned (Unit {0}) (MayTurn buffers.old) }
+    ensures len { length buffers.new ≡ length buffers.old }
+    ensures known { map known buffers.new ≡ option_map_or (λ b. set_known known_turned b (map known buffers.old)) turned (map known buffers.old) }
+{
+    if let Some(buffer) = turned {
+        let held = &mut buffers[buffer.0 as usize];
+        held.turn();
+    }
+}
+
+/// Makes versions that were planned, and then one turn more where one was planned.
+fn carry_out(buffers: &mut [Held], moves: Vec<Move>, turned: Option<BufferNo>)
+    requires made { Each (IsPlannedAt buffers.old) moves.items }
+    requires apart { AreApart moves.items }
+    requires turning { MatchOption turned (Unit {0}) (MayTurn buffers.old) }
+    ensures len { length buffers.new ≡ length buffers.old }
+    ensures known { map known buffers.new ≡ known_made (map known buffers.old) moves.items turned }
+{
+    make_all(buffers, moves);
+    turn(buffers, turned);
+}
+
+impl Stock {
+    /// Makes a group that was planned on this state, and tells the versions that it made. It takes no
+    /// memory.
+    pub fn commit(&mut self, group: Group) -> VersionList
+        requires { IsPlanned self.old group }
+        ensures stock { stock self.new ≡ outcome (stock self.old) group }
+        ensures versions { result ≡ group.versions }
+        ensures one { OneVector (stock self.new) }
+        ensures current { CurrentVector (stock self.new) }
+        ensures stay { RecordsStay (stock self.old) (stock self.new) }
+    {
+        let Group {
+            moves,
+            turned,
+            graph,
+            counts,
+            versions,
+        } = group;
+        carry_out(&mut self.buffers, moves, turned);
+        self.graph = graph;
+        self.counts = counts;
+        versions
+    }
+}

@@ -1,0 +1,96 @@
+//! The sources of a buffer on the way through a group.
+ghost use Rattle.std.specs.Prelude.{◌≡◌, ℕ, ◌<◌, All, length, map, is_some, option_map, IfOk};
+ghost use Rattle.std.specs.List.{list_any};
+ghost use Rattle.ed_base.specs.ChangeList.{step};
+ghost use Rattle.ed_members.specs.Steps.{step_seen};
+ghost use Rattle.ed_group.specs.Moves.{move_of, snapshot_after, snapshot_now};
+ghost use Rattle.ed_group.specs.Rising.{plain};
+
+use crate::held::Held;
+use crate::moves::Move;
+use ed_base::{BufferNo, Changes, OutOfMemory, VersionNo};
+use ed_members::{Owned, SourceStep};
+use ed_version::Snapshot;
+use std::alloc::Global;
+
+/// The step of a source to which these changes lead, of which no member owns anything.
+///
+/// # Errors
+///
+/// A further holder was refused, which counts as want of memory.
+pub fn step_by(
+    alloc: Global,
+    source: BufferNo,
+    changes: &Changes,
+) -> Result<SourceStep, OutOfMemory>
+    ensures source { IfOk result (λ s. s.source ≡ source) }
+    ensures step { IfOk result (λ s. step_seen s ≡ plain (step changes.now)) }
+{
+    // The list is looked at for what is known of its form.
+    let _normal = changes.as_slice();
+    Ok(SourceStep {
+        source,
+        changes: changes.share()?,
+        owned: Owned::of(Vec::new(alloc)),
+    })
+}
+
+/// The move of a buffer, if it has one.
+pub fn move_of(moves: &[Move], buffer: BufferNo) -> Option<&Move>
+    ensures { option_map (λ m. m.now) result ≡ move_of moves.now buffer }
+{
+    moves.iter().find(|candidate| candidate.buffer == buffer)
+}
+
+/// Whether one of the sources has moved.
+pub fn has_moved(moves: &[Move], sources: &[(BufferNo, VersionNo)]) -> bool
+    ensures { result ≡ list_any (λ v. is_some (move_of moves.now v.0)) sources.now }
+{
+    for source in sources {
+        if move_of(moves, source.0).is_some() {
+            return true;
+        }
+    }
+    false
+}
+
+/// The snapshot of a buffer at its current version.
+pub fn newest(buffers: &[Held], buffer: BufferNo) -> Result<Snapshot, OutOfMemory>
+    requires { buffer < length buffers.now }
+    ensures { IfOk result (λ s. s ≡ snapshot_now buffers.now buffer) }
+{
+    let held = &buffers[buffer.0 as usize];
+    held.snapshot(held.now())
+}
+
+/// The snapshot of a buffer once the moves are made.
+fn snapshot(buffers: &[Held], moves: &[Move], buffer: BufferNo) -> Result<Snapshot, OutOfMemory>
+    requires { buffer < length buffers.now }
+    ensures { IfOk result (λ s. s ≡ snapshot_after buffers.now moves.now buffer) }
+{
+    match move_of(moves, buffer) {
+        Some(found) => found.planned.snapshot(),
+        None => newest(buffers, buffer),
+    }
+}
+
+/// The snapshots of all these sources once the moves are made.
+///
+/// # Errors
+///
+/// Memory was refused.
+pub fn snapshots(
+    alloc: Global,
+    buffers: &[Held],
+    moves: &[Move],
+    sources: &[(BufferNo, VersionNo)],
+) -> Result<Vec<Snapshot>, OutOfMemory>
+    requires { All (λ v. v.0 < length buffers.now) sources.now }
+    ensures { IfOk result (λ v. v.items ≡ map (λ v. snapshot_after buffers.now moves.now v.0) sources.now) }
+{
+    let mut found = Vec::with_capacity(alloc, sources.len())?;
+    for source in sources {
+        found.push(snapshot(buffers, moves, source.0)?)?;
+    }
+    Ok(found)
+}

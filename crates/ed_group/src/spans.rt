@@ -1,0 +1,130 @@
+//! Members of projections that are replaced, planned.
+ghost use Rattle.std.specs.Prelude.{◌≡◌, ◌+◌, ◌<◌, ◌≤◌, true, length, map, slice_get, All, IfOk, Some};
+ghost use Rattle.ed_layers.specs.Records.{is_carrier};
+ghost use Rattle.ed_stock.specs.Making.{spans_set};
+ghost use Rattle.ed_stock.specs.Stock.{count, record_now};
+ghost use Rattle.ed_stock.specs.Versions.{versions_made};
+ghost use Rattle.ed_group.specs.Answers.{LiesIn, Refuses, members_now, spans_fault};
+ghost use Rattle.ed_group.specs.Group.{IsPlanned, IsProjection, outcome};
+ghost use Rattle.ed_group.specs.Kept.{IsKept};
+ghost use Rattle.ed_group.specs.declared.held.Held.{Held};
+ghost use Rattle.ed_group.specs.Seen.{known, stock};
+
+use crate::climbing::{add, climb};
+use crate::counts::Counts;
+use crate::editing::carried;
+use crate::fault::PlanFault;
+use crate::group::Group;
+use crate::grouping::group_of;
+use crate::held::Held;
+use crate::limits::members_limit;
+use crate::moves::Planned;
+use crate::spanning::begun;
+use crate::stock::Stock;
+use ed_base::{BufferNo, Member};
+use ed_graph::Graph;
+use std::alloc::Global;
+
+/// Whether it is a projection whose members can be set once more.
+fn can_turn(held: &Held) -> bool
+    ensures { result ≡ true → IsProjection held.now }
+{
+    match held {
+        Held::Base(_) => false,
+        Held::Projection { turns, .. } => *turns < u32::MAX,
+    }
+}
+
+/// Whether members of one of these buffers can be set once more.
+fn may_turn(buffers: &[Held], buffer: BufferNo) -> bool
+    requires { buffer < length buffers.now }
+    ensures { (h : Held) → slice_get buffers.now buffer ≡ Some h → result ≡ true → IsProjection h }
+{
+    can_turn(&buffers[buffer.0 as usize])
+}
+
+/// Plans the group to which replaced members of a projection lead: its own version, and then, in the
+/// order of the graph, one of each buffer that stands over a buffer with a new version.
+fn replaced(
+    alloc: Global,
+    buffers: &mut [Held],
+    graph: &Graph,
+    counts: &Counts,
+    buffer: BufferNo,
+    first: u32,
+    removed: u32,
+    added: Vec<Member>,
+) -> Result<Group, PlanFault>
+    requires kept { IsKept (map known buffers.old) graph.now counts.now }
+    requires there { buffer < count (stock buffers.old) }
+    requires projection { is_carrier (record_now (stock buffers.old) buffer) ≡ true }
+    requires part { first + removed ≤ length (members_now (stock buffers.old) buffer) }
+    requires inside { All (LiesIn (stock buffers.old)) added.items }
+    ensures same { map known buffers.new ≡ map known buffers.old }
+    ensures fault { Refuses (spans_fault (stock buffers.old) buffer first removed added.items) result }
+    ensures planned { IfOk result (IsPlanned buffers.new) }
+    ensures outcome { IfOk result (λ g. outcome (stock buffers.old) g ≡ (spans_set (stock buffers.old) buffer first removed added.items).stock) }
+    ensures versions { IfOk result (λ g. g.versions ≡ versions_made (spans_set (stock buffers.old) buffer first removed added.items)) }
+{
+    if !may_turn(buffers, buffer) {
+        return Err(PlanFault::OutOfMemory);
+    }
+    // The order is looked at for what is known of the graph's form.
+    let _order = graph.order();
+    let (linked, next) = begun(alloc, buffers, graph, buffer, first, removed, added)?;
+    let most = members_limit(u64::from(next.members().count()));
+    let mut moves = Vec::new(alloc);
+    let mut steps = Vec::new(alloc);
+    add(
+        alloc,
+        buffer,
+        Planned::Projection(next),
+        &mut moves,
+        &mut steps,
+    )?;
+    if let Err(fault) = climb(alloc, buffers, linked.order(), &mut moves, &mut steps) {
+        return Err(carried(fault));
+    }
+    group_of(alloc, counts, linked, moves, Some(buffer), most)
+}
+
+impl Stock {
+    /// Plans that `removed` members of a projection from `first` on are replaced by these, with the
+    /// version of each buffer that stands over it: the projection's own comes first, then the others
+    /// in the order of the graph. The projection makes a version also where nothing differs. Contracts
+    /// see the stock as it was, also after a fault: only room is reserved.
+    ///
+    /// # Errors
+    ///
+    /// Members don't cover their sources or conflict, a source stands on the projection, buffers would
+    /// be stacked too high, a limit is passed, or memory was refused.
+    pub fn plan_spans(
+        &mut self,
+        alloc: Global,
+        b: BufferNo,
+        first: u32,
+        removed: u32,
+        members: Vec<Member>,
+    ) -> Result<Group, PlanFault>
+        requires there { b < count (stock self.old) }
+        requires projection { is_carrier (record_now (stock self.old) b) ≡ true }
+        requires part { first + removed ≤ length (members_now (stock self.old) b) }
+        requires inside { All (LiesIn (stock self.old)) members.items }
+        ensures same { stock self.new ≡ stock self.old }
+        ensures fault { Refuses (spans_fault (stock self.old) b first removed members.items) result }
+        ensures planned { IfOk result (IsPlanned self.new) }
+        ensures outcome { IfOk result (λ g. outcome (stock self.old) g ≡ (spans_set (stock self.old) b first removed members.items).stock) }
+        ensures versions { IfOk result (λ g. g.versions ≡ versions_made (spans_set (stock self.old) b first removed members.items)) }
+    {
+        replaced(
+            alloc,
+            &mut self.buffers,
+            &self.graph,
+            &self.counts,
+            b,
+            first,
+            removed,
+            members,
+        )
+    }
+}

@@ -1,0 +1,205 @@
+-- Worked examples of the machine, by computing: the replies to a list of commands.
+use Rattle.std.proofs.Common.{◌≡◌, ℕ, List, [], ◌∷◌, Some, None, map, refl}
+use Rattle.std.specs.Prelude.{codes}
+use Rattle.ed_base.specs.declared.SpanMode.{SpanMode}
+use Rattle.ed_base.specs.declared.EdgeMode.{EdgeMode}
+use Rattle.ed_base.specs.declared.SpanHow.{SpanHow}
+use Rattle.ed_base.specs.declared.Span.{Span}
+use Rattle.ed_base.specs.declared.PointMode.{PointMode}
+use Rattle.ed_base.specs.declared.QueryRule.{QueryRule}
+use Rattle.ed_base.specs.declared.CustomRule.{CustomRule}
+use Rattle.ed_base.specs.declared.What.{What}
+use Rattle.ed_base.specs.declared.Replace.{Replace}
+use Rattle.ed_base.specs.declared.ScriptSpan.{ScriptSpan}
+use Rattle.ed_base.specs.declared.Refusal.{Refusal}
+use Rattle.ed_base.specs.Hooks.{HookTable}
+use Rattle.ed_base.specs.ChangeList.{ChangeList, change}
+use Rattle.ed_script.specs.declared.Command.{Command}
+use Rattle.ed_version.specs.declared.Snapshot.{Snapshot}
+use Rattle.ed_entry.specs.declared.Reply.{Reply}
+use Rattle.ed_machine.specs.History.{alone}
+use Rattle.ed_machine.proofs.OnLiterals.{machine_on_literals}
+
+-- ---- written shorter
+
+abbrev no_hooks : HookTable
+no_hooks = record { resolvers = []; queries = []; customs = [] }
+
+abbrev replies_with : HookTable → List Command → List Reply
+replies_with hooks commands = map (λ e. e.reply) (alone hooks commands)
+
+abbrev replies : List Command → List Reply
+replies commands = replies_with no_hooks commands
+
+abbrev some_hooks : HookTable
+some_hooks = record { resolvers = []; queries = (codes "edit_only", QueryRule.EditOnly) ∷ []; customs = (codes "caret", CustomRule.Caret) ∷ [] }
+
+abbrev r : ℕ → ℕ → List ℕ → Replace
+r s l t = record { start = s; len = l; text = t }
+
+abbrev literal : List ℕ → ScriptSpan
+literal text = ScriptSpan.Literal text
+
+abbrev exclusive : List ℕ → ℕ → ℕ → ScriptSpan
+exclusive name s l = ScriptSpan.Tracked name s l SpanMode.EdgeExclusive
+
+abbrev inclusive : List ℕ → ℕ → ℕ → ScriptSpan
+inclusive name s l = ScriptSpan.Tracked name s l SpanMode.EdgeInclusive
+
+abbrev edit : List ℕ → List Replace → Command
+edit name replaces = Command.Edit name replaces None
+
+abbrev spans : List ℕ → ℕ → ℕ → List ScriptSpan → Command
+spans name first count added = Command.Spans name first count added None
+
+abbrev text : List ℕ → Command
+text name = Command.Text name None
+
+abbrev shown : ℕ → ℕ → List ℕ → Reply
+shown b v units = Reply.Text (shot b v units)
+  where
+    shot : ℕ → ℕ → List ℕ → Snapshot
+    shot b v units = record { buffer = b; version = v; text = units }
+
+abbrev changes : ℕ → ℕ → ℕ → List ℕ → Reply
+changes old_len start gone units = Reply.Changes (list old_len start gone units)
+  where
+    list : ℕ → ℕ → ℕ → List ℕ → ChangeList
+    list old_len start gone units = record { old_len = old_len; changes = change start gone units ∷ [] }
+
+abbrev a : List ℕ
+a = codes "a"
+
+abbrev p : List ℕ
+p = codes "p"
+
+abbrev q : List ℕ
+q = codes "q"
+
+-- ---- rows
+
+-- an edit of a base rises through two projections
+rises : replies (
+    Command.Buffer a (codes "abcd")
+    ∷ Command.Projection p (literal (codes "<") ∷ exclusive a 2 2 ∷ literal (codes ">") ∷ [])
+    ∷ Command.Projection q (exclusive a 0 2 ∷ exclusive p 1 2 ∷ [])
+    ∷ edit a (r 1 2 (codes "XY") ∷ [])
+    ∷ text a ∷ text p ∷ text q ∷ [])
+    ≡ Reply.Made 0 ∷ Reply.Made 1 ∷ Reply.Made 2 ∷ Reply.Edited ((0, 1) ∷ (1, 1) ∷ (2, 1) ∷ [])
+    ∷ shown 0 1 (codes "aXYd") ∷ shown 1 1 (codes "<d>") ∷ shown 2 1 (codes "ad") ∷ []
+unfolding machine_on_literals
+rises = refl
+
+-- members are put in, and a range past them is refused
+members_put_in : replies (
+    Command.Buffer a (codes "abcdef")
+    ∷ Command.Projection p (exclusive a 0 3 ∷ [])
+    ∷ spans p 1 0 (literal (codes "-") ∷ exclusive a 3 3 ∷ [])
+    ∷ Command.Changes p 0
+    ∷ spans p 3 1 [] ∷ [])
+    ≡ Reply.Made 0 ∷ Reply.Made 1 ∷ Reply.Edited ((1, 1) ∷ [])
+    ∷ changes 3 3 0 (codes "-def")
+    ∷ Reply.Refused (Refusal.OutOfRange 4 3) ∷ []
+unfolding machine_on_literals
+members_put_in = refl
+
+-- a projection isn't put over itself
+cycle_refused : replies (
+    Command.Buffer a (codes "a")
+    ∷ Command.Projection p (exclusive a 0 1 ∷ [])
+    ∷ Command.Projection q (exclusive p 0 1 ∷ [])
+    ∷ spans p 0 1 (exclusive q 0 1 ∷ []) ∷ [])
+    ≡ Reply.Made 0 ∷ Reply.Made 1 ∷ Reply.Made 2 ∷ Reply.Refused (Refusal.Cycle 2) ∷ []
+unfolding machine_on_literals
+cycle_refused = refl
+
+abbrev over : List ℕ → List ℕ → Command
+over name source = Command.Projection name (exclusive source 0 1 ∷ [])
+
+-- eight projections over each other are taken, and the ninth is refused
+ninth_refused : replies (
+    Command.Buffer (codes "p0") (codes "a")
+    ∷ over (codes "p1") (codes "p0") ∷ over (codes "p2") (codes "p1") ∷ over (codes "p3") (codes "p2")
+    ∷ over (codes "p4") (codes "p3") ∷ over (codes "p5") (codes "p4") ∷ over (codes "p6") (codes "p5")
+    ∷ over (codes "p7") (codes "p6") ∷ over (codes "p8") (codes "p7") ∷ over (codes "p9") (codes "p8") ∷ [])
+    ≡ Reply.Made 0 ∷ Reply.Made 1 ∷ Reply.Made 2 ∷ Reply.Made 3 ∷ Reply.Made 4
+    ∷ Reply.Made 5 ∷ Reply.Made 6 ∷ Reply.Made 7 ∷ Reply.Made 8 ∷ Reply.Refused (Refusal.Depth 9) ∷ []
+unfolding machine_on_literals
+ninth_refused = refl
+
+-- the refusals in their order, each after those before it have passed
+refusals : replies (
+    Command.Buffer a (codes "abc")
+    ∷ Command.Projection p (exclusive a 0 3 ∷ [])
+    ∷ edit (codes "z") []
+    ∷ Command.Buffer a []
+    ∷ Command.Region p 0 1 EdgeMode.Deny SpanMode.EdgeExclusive None
+    ∷ edit p (r 9 0 [] ∷ [])
+    ∷ Command.Edit a [] (Some 1)
+    ∷ edit a (r 4 0 [] ∷ [])
+    ∷ edit a (r 3 0 (codes "d") ∷ [])
+    ∷ Command.Projection q (inclusive a 0 2 ∷ [])
+    ∷ Command.Projection q (exclusive a 0 2 ∷ exclusive a 1 2 ∷ []) ∷ [])
+    ≡ Reply.Made 0 ∷ Reply.Made 1
+    ∷ Reply.Refused Refusal.NoBuffer ∷ Reply.Refused Refusal.NameTaken ∷ Reply.Refused Refusal.WrongKind ∷ Reply.Refused Refusal.WrongKind
+    ∷ Reply.Refused (Refusal.Stale 0) ∷ Reply.Refused (Refusal.OutOfRange 4 3)
+    ∷ Reply.Edited ((0, 1) ∷ (1, 1) ∷ [])
+    ∷ Reply.Refused (Refusal.Mode 0) ∷ Reply.Refused (Refusal.Overlap 0 1) ∷ []
+unfolding machine_on_literals
+refusals = refl
+
+-- a source that isn't there comes before a name that is taken
+source_before_name : replies (
+    Command.Buffer a []
+    ∷ Command.Projection a (exclusive (codes "z") 0 0 ∷ [])
+    ∷ Command.Projection a [] ∷ [])
+    ≡ Reply.Made 0 ∷ Reply.Refused Refusal.NoBuffer ∷ Reply.Refused Refusal.NameTaken ∷ []
+unfolding machine_on_literals
+source_before_name = refl
+
+-- an overlap names indices of the list that would result
+overlap_of_the_result : replies (
+    Command.Buffer a (codes "abcd")
+    ∷ Command.Projection p (exclusive a 0 2 ∷ [])
+    ∷ spans p 1 0 (exclusive a 1 2 ∷ []) ∷ [])
+    ≡ Reply.Made 0 ∷ Reply.Made 1 ∷ Reply.Refused (Refusal.Overlap 0 1) ∷ []
+unfolding machine_on_literals
+overlap_of_the_result = refl
+
+-- a region with a query denies edits alone, and only inside
+edits_denied : replies_with some_hooks (
+    Command.Buffer a (codes "abc")
+    ∷ Command.Region a 0 3 EdgeMode.Allow SpanMode.EdgeExclusive (Some (codes "edit_only"))
+    ∷ Command.Readonly a 1 0
+    ∷ edit a (r 1 0 (codes "x") ∷ [])
+    ∷ edit a (r 3 0 (codes "x") ∷ [])
+    ∷ Command.Unregion a 0
+    ∷ Command.Unregion a 0 ∷ [])
+    ≡ Reply.Made 0 ∷ Reply.Region 0 ∷ Reply.Free ∷ Reply.Refused (Refusal.ReadOnly 0 0) ∷ Reply.Edited ((0, 1) ∷ [])
+    ∷ Reply.Removed ∷ Reply.Refused (Refusal.NoSuch What.Region) ∷ []
+unfolding machine_on_literals
+edits_denied = refl
+
+-- a point and spans of a base and of a projection go along
+abbrev moved : ℕ → ℕ → Reply
+moved start len = Reply.Span (span start len)
+  where
+    span : ℕ → ℕ → Span
+    span start len = record { start = start; len = len }
+
+tracked : replies_with some_hooks (
+    Command.Buffer a (codes "abcdefghi")
+    ∷ Command.Projection p (literal (codes "-") ∷ exclusive a 0 9 ∷ [])
+    ∷ edit a (r 3 0 (codes "X") ∷ r 6 0 (codes "X") ∷ [])
+    ∷ Command.Span a 3 3 (SpanHow.Mode SpanMode.EdgeExclusive) (Some 0) None
+    ∷ Command.Span p 4 3 (SpanHow.Mode SpanMode.EdgeInclusive) (Some 0) (Some 1)
+    ∷ Command.Span a 3 3 (SpanHow.Custom (codes "caret")) (Some 0) None
+    ∷ Command.Point p 4 PointMode.Positive (Some 0) None
+    ∷ Command.Point p 5 PointMode.Negative (Some 1) (Some 0)
+    ∷ Command.Versions p
+    ∷ Command.Point p 11 PointMode.Positive (Some 0) None ∷ [])
+    ≡ Reply.Made 0 ∷ Reply.Made 1 ∷ Reply.Edited ((0, 1) ∷ (1, 1) ∷ [])
+    ∷ moved 4 3 ∷ moved 4 5 ∷ moved 8 0 ∷ Reply.At 5 ∷ Reply.At 4 ∷ Reply.Versions (0 ∷ 1 ∷ [])
+    ∷ Reply.Refused (Refusal.OutOfRange 11 10) ∷ []
+unfolding machine_on_literals
+tracked = refl
