@@ -8,7 +8,7 @@ use Rattle.ed_base.specs.declared.piece.Piece.{Piece}
 use Rattle.ed_base.specs.declared.piece.Side.{Side}
 use Rattle.ed_base.specs.declared.refusal.Refusal.{Refusal}
 use Rattle.ed_base.specs.declared.rule.CutRule.{CutRule}
-use Rattle.ed_base.specs.Numbers.{or_else}
+use Rattle.ed_base.specs.Numbers.{first_some, or_else}
 use Rattle.ed_base.specs.Spans.{end_of, is_empty, touches_gap, shares_unit, shared}
 use Rattle.ed_base.specs.Hooks.{CutRules, cut}
 use Rattle.ed_layers.specs.Records.{placement}
@@ -42,16 +42,12 @@ targets members c = filter_map (λ im. target_at c (placement members im.0) im) 
 -- ---- refusals
 
 -- the deleted part of a literal
-abbrev literal_part : Component → Span → ℕ × Member → Option Span
+abbrev pub literal_part : Component → Span → ℕ × Member → Option Span
 literal_part c place (i, Member.Literal units) = if shares_unit place (range_of c) then Some (shared place (range_of c)) else None
 literal_part c place (i, Member.Tracked source bounds mode) = None
 
 abbrev pub deleted_literal : List Member → Component → Option Span
-deleted_literal members c = first_there (map (λ im. literal_part c (placement members im.0) im) (enumerate_from 0 members))
-  where
-    first_there : List (Option Span) → Option Span
-    first_there [] = None
-    first_there (o ∷ os) = or_else o (first_there os)
+deleted_literal members c = first_some (map (λ im. literal_part c (placement members im.0) im) (enumerate_from 0 members))
 
 -- why a component can't be sent: it deletes a unit of a literal, or it has no target
 abbrev pub component_fault : ℕ → List Member → Component → Option Refusal

@@ -1,0 +1,6 @@
+pub mod Lists
+pub mod Texts
+pub mod Members
+pub mod Carriers
+pub mod Shared
+pub mod Groups

@@ -1,0 +1,5 @@
+-- A new text as one list that says everything of it, and what pieces make of it.
+pub mod PiecesAtGap
+pub mod FullText
+pub mod GapOrder
+pub mod FilteredText
