@@ -9,3 +9,4 @@ pub mod Turns
 pub mod RecordTexts
 pub mod LandedSteps
 pub mod AcceptedEdit
+pub mod OneWay

@@ -25,7 +25,7 @@ use Rattle.ed_sending.proofs.Texts.FilteredText.{passing}
 use Rattle.ed_sending.proofs.Shared.SourceSigns.{ends_at}
 
 -- nothing is sent where no member lies
-none_sent : (carrier : ℕ) (members : List Member) (resolver : Option CutRules) (cs : List Component) (b : ℕ) → ((k : ℕ) (x : Span) (mode : SpanMode) → slice_get members k ≡ Some (Member.Tracked b x mode) → ⊥) → pieces_at (sent carrier members resolver cs) b ≡ []
+pub none_sent : (carrier : ℕ) (members : List Member) (resolver : Option CutRules) (cs : List Component) (b : ℕ) → ((k : ℕ) (x : Span) (mode : SpanMode) → slice_get members k ≡ Some (Member.Tracked b x mode) → ⊥) → pieces_at (sent carrier members resolver cs) b ≡ []
 none_sent carrier members resolver cs b none = by (pieces_at (sent carrier members resolver cs) b) (all_for carrier members resolver b cs)
   where
     by : (ps : List Piece) → Each (IsFor carrier members b) ps → ps ≡ []
@@ -75,7 +75,7 @@ abbrev pub send : HookTable → Stock → ℕ → List Piece → List (ℕ × Pi
 send hooks s c ps = sent c (members_of (record_now s c)) (resolver_of hooks s c) (arrived ps (length (text_now s c)))
 
 module _ (hooks : HookTable) (s : Stock) (lower : AreLower s) where
-  no_higher : (d c : ℕ) → height_now s d ≤ height_now s c → (ps : List Piece) → pieces_at (send hooks s d ps) c ≡ []
+  pub no_higher : (d c : ℕ) → height_now s d ≤ height_now s c → (ps : List Piece) → pieces_at (send hooks s d ps) c ≡ []
   no_higher d c low ps = none_sent d (members_of (record_now s d)) (resolver_of hooks s d) (arrived ps (length (text_now s d))) c (λ k x mode there. (let l : height_now s c < height_now s d = lower d k c x mode there in omega arith))
 
   pub send_later : (order : List ℕ) → Falls (height_now s) order → SendLater (send hooks s) order
