@@ -1,9 +1,3 @@
-pub mod Parts
-pub mod SortedParts
-pub mod Arriving
-pub mod Cutting
-pub mod Dealing
-pub mod Standing
 pub mod Rising
-pub mod Keys
+pub mod Dealing
 pub mod Reaching

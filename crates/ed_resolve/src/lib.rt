@@ -1,17 +1,9 @@
-//! Sending: what arrives at a carrier, and what the carrier sends on to its sources.
+//! Sending: what a carrier sends on to its sources, of all that arrives at it.
 #![tactic(auto)]
 
-mod arrived;
 mod fault;
-mod order;
-mod part;
-mod pending;
-mod run;
 mod sending;
 mod target;
 
-pub use arrived::Arrived;
 pub use fault::SendFault;
-pub use part::Part;
-pub use run::Run;
 pub use sending::send_down;

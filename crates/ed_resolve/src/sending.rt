@@ -4,19 +4,17 @@ ghost use Rattle.ed_base.specs.declared.CutRule.{CutRule};
 ghost use Rattle.ed_callbacks.specs.HookLists.{rules};
 ghost use Rattle.ed_layers.specs.Records.{members_len};
 ghost use Rattle.ed_layers.specs.Sending.{component_fault, component_sent, piece_of, sending_fault, sent, share_end, side_at, target_pieces, trail_runs, share};
-ghost use Rattle.ed_resolve.specs.Arrivals.{units_put_in};
+ghost use Rattle.ed_pieces.specs.Arrivals.{units_put_in};
 ghost use Rattle.ed_resolve.specs.Faults.{EndsShort, refusal_of};
-ghost use Rattle.ed_resolve.specs.Runs.{AreRuns, text_of};
+ghost use Rattle.ed_pieces.specs.Runs.{AreRuns, text_of};
 ghost use Rattle.ed_resolve.specs.Sends.{dealt, pieces_from, rule_in, to_source};
 
-use crate::arrived::Arrived;
 use crate::fault::SendFault;
-use crate::part::Part;
-use crate::run::{Run, cut_runs};
 use crate::target::{Target, targets_of};
 use ed_base::{BufferNo, OutOfMemory, Piece, Side, Span, Trail, Units};
 use ed_callbacks::Resolver;
 use ed_members::Members;
+use ed_pieces::{Arrived, Part, Run, cut_runs};
 use std::alloc::Global;
 
 /// L at the end of the bounds, R at their start, and M elsewhere and in empty bounds.

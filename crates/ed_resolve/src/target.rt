@@ -9,9 +9,9 @@ ghost use Rattle.ed_layers.specs.Sending.{component_fault, deleted_literal, lite
 ghost use Rattle.ed_resolve.specs.Faults.{EndsShort, HasLength, IsDeleted, range_in, refusal_of, shared_in};
 
 use crate::fault::SendFault;
-use crate::part::Part;
 use ed_base::{BufferNo, Member, Span};
 use ed_members::Members;
+use ed_pieces::Part;
 use std::alloc::Global;
 use std::marker::Model;
 

@@ -1,0 +1,13 @@
+//! What arrives at a buffer: pieces of text that were sent there, each with the way that it came,
+//! brought together to one list of components.
+#![tactic(auto)]
+
+mod arrived;
+mod order;
+mod part;
+mod pending;
+mod run;
+
+pub use arrived::Arrived;
+pub use part::Part;
+pub use run::{Run, cut_runs};
