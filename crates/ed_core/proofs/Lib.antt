@@ -20,3 +20,4 @@ pub mod Passing
 pub mod Settling
 pub mod RegionSteps
 pub mod RegionTelling
+mod Doing

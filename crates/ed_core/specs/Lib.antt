@@ -4,3 +4,4 @@ pub mod Reading
 pub mod RegionOutcomes
 pub mod Deciding
 pub mod Asking
+pub mod Doing

@@ -1,15 +1,15 @@
 //! Edits of bases.
 ghost use Rattle.std.specs.Prelude.{◌≡◌, ◌+◌, ◌<◌, ◌≤◌, ◌^◌, false, length, None, Some, IfOk, OnOk, OnErr};
 ghost use Rattle.ed_callbacks.specs.HookLists.{hook_table};
-ghost use Rattle.ed_entry.specs.declared.Event.{Event as Happening};
 ghost use Rattle.ed_group.specs.Laws.{RecordsStay};
 ghost use Rattle.ed_layers.specs.Records.{is_carrier};
 ghost use Rattle.ed_machine.specs.State.{count, record_now, text_now};
 ghost use Rattle.ed_machine.specs.Refusals.{len_now, stale};
-ghost use Rattle.ed_machine.specs.Step.{step};
+ghost use Rattle.ed_machine.specs.Step.{told};
 ghost use Rattle.ed_script.specs.declared.Command.{Command as Told};
 ghost use Rattle.ed_core.specs.Asking.{edit_refusal, form_told, replaces_outcome};
 ghost use Rattle.ed_core.specs.Deciding.{changes_outcome};
+ghost use Rattle.ed_core.specs.Doing.{Does};
 ghost use Rattle.ed_core.specs.Within.{IsWithin};
 
 use crate::landing::land;
@@ -21,7 +21,6 @@ use ed_base::{
 use ed_callbacks::Hooks;
 use ed_change::{ChangeFault, normalise, puts_in_at_most};
 use ed_entry::Reply;
-use std::alloc::Global;
 
 /// The most units that one edit puts in.
 const MOST_PUT_IN: u64 = 1 << 27;
@@ -77,7 +76,6 @@ impl Core {
     /// Edits the current text of a base by changes of it.
     fn land_changes(
         &mut self,
-        alloc: Global,
         hooks: &Hooks,
         buffer: BufferNo,
         changes: &Changes,
@@ -97,14 +95,13 @@ impl Core {
         if inserted(changes) > MOST_PUT_IN {
             return Err(OutOfMemory);
         }
-        let planned = self.stock.plan_edit(alloc, hooks, buffer, changes);
+        let planned = self.stock.plan_edit(self.alloc, hooks, buffer, changes);
         land(&mut self.stock, planned)
     }
 
     /// Edits the current text of a base by replaces.
     fn edit_base(
         &mut self,
-        alloc: Global,
         hooks: &Hooks,
         buffer: BufferNo,
         replaces: &[Replace],
@@ -121,8 +118,8 @@ impl Core {
         if !puts_in_at_most(replaces, MOST_PUT_IN) {
             return Err(OutOfMemory);
         }
-        match normalise(alloc, now_len, replaces) {
-            Ok(changes) => self.land_changes(alloc, hooks, buffer, &changes),
+        match normalise(self.alloc, now_len, replaces) {
+            Ok(changes) => self.land_changes(hooks, buffer, &changes),
             Err(fault) => unformed(fault),
         }
     }
@@ -130,16 +127,12 @@ impl Core {
     /// Edits a base.
     pub(crate) fn edit(
         &mut self,
-        alloc: Global,
         hooks: &Hooks,
         name: &Name,
         replaces: &ReplaceList,
         at: &Option<VersionNo>,
     ) -> Result<Reply, OutOfMemory>
-        ensures reply { IfOk result (λ r. r ≡ (step (hook_table hooks.now) self.old (Happening.Told (Told.Edit name.now replaces.now at.now))).reply) }
-        ensures state { OnOk result (self.new ≡ (step (hook_table hooks.now) self.old (Happening.Told (Told.Edit name.now replaces.now at.now))).state) }
-        ensures err { OnErr result (self.new ≡ self.old) }
-        ensures stay { RecordsStay self.old.stock self.new.stock }
+        ensures { Does (told (hook_table hooks.now) self.old (Told.Edit name.now replaces.now at.now)) self.old self.new result }
     {
         let Some(buffer) = self.number_of(name) else {
             return Ok(Reply::Refused(Refusal::NoBuffer));
@@ -147,6 +140,6 @@ impl Core {
         if let Some(refusal) = self.edit_refusal(buffer, at) {
             return Ok(Reply::Refused(refusal));
         }
-        self.edit_base(alloc, hooks, buffer, replaces.as_slice())
+        self.edit_base(hooks, buffer, replaces.as_slice())
     }
 }

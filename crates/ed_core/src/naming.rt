@@ -19,12 +19,12 @@ fn copied(alloc: Global, units: &Units) -> Result<Units, OutOfMemory>
 
 impl Core {
     /// The member that a span asks for, where its buffer is there.
-    fn member(&self, alloc: Global, span: &ScriptSpan) -> Result<Option<Member>, OutOfMemory>
+    fn member(&self, span: &ScriptSpan) -> Result<Option<Member>, OutOfMemory>
         ensures asked { IfOk result (λ m. m ≡ member_asked self.now span.now) }
         ensures there { IfOk result (λ m. IfSome m (HasSource self.now)) }
     {
         match span {
-            ScriptSpan::Literal(units) => Ok(Some(Member::Literal(copied(alloc, units)?))),
+            ScriptSpan::Literal(units) => Ok(Some(Member::Literal(copied(self.alloc, units)?))),
             ScriptSpan::Tracked {
                 buffer,
                 start,
@@ -46,17 +46,13 @@ impl Core {
     }
 
     /// The members that spans ask for, where all their buffers are there.
-    pub(crate) fn members(
-        &self,
-        alloc: Global,
-        spans: &[ScriptSpan],
-    ) -> Result<Option<Vec<Member>>, OutOfMemory>
+    pub(crate) fn members(&self, spans: &[ScriptSpan]) -> Result<Option<Vec<Member>>, OutOfMemory>
         ensures asked { IfOk result (λ o. option_map (λ v. v.items) o ≡ members_asked self.now spans.now) }
         ensures there { IfOk result (λ o. IfSome o (λ v. All (HasSource self.now) v.items)) }
     {
-        let mut members = Vec::new(alloc);
+        let mut members = Vec::new(self.alloc);
         for span in spans {
-            match self.member(alloc, span)? {
+            match self.member(span)? {
                 None => return Ok(None),
                 Some(member) => members.push(member)?,
             }

@@ -14,7 +14,6 @@ use ed_base::{BufferNo, OutOfMemory, PointMode, Refusal, Span, SpanHow, VersionN
 use ed_callbacks::Hooks;
 use ed_entry::Reply;
 use ed_lines::Lines;
-use std::alloc::Global;
 
 impl Core {
     /// A version's number, by default the current one's.
@@ -105,7 +104,6 @@ impl Core {
     /// The lines of a version.
     pub(crate) fn lines(
         &self,
-        alloc: Global,
         buffer: BufferNo,
         at: &Option<VersionNo>,
     ) -> Result<Reply, OutOfMemory>
@@ -117,7 +115,7 @@ impl Core {
         }
         let version = self.version_or_now(buffer, at);
         let snapshot = self.stock.snapshot(buffer, version)?;
-        let table = Lines::of(alloc, &snapshot.text)?;
+        let table = Lines::of(self.alloc, &snapshot.text)?;
         Ok(Reply::Lines {
             lines: table.list()?,
         })
@@ -138,11 +136,11 @@ impl Core {
     }
 
     /// The number that each version repeats.
-    pub(crate) fn versions(&self, alloc: Global, buffer: BufferNo) -> Result<Reply, OutOfMemory>
+    pub(crate) fn versions(&self, buffer: BufferNo) -> Result<Reply, OutOfMemory>
         requires { buffer < count self.now }
         ensures { IfOk result (λ r. r ≡ versions_answer self.now buffer) }
     {
-        let numbers = self.stock.reiterated_numbers(alloc, buffer)?;
+        let numbers = self.stock.reiterated_numbers(self.alloc, buffer)?;
         Ok(Reply::Versions { numbers })
     }
 

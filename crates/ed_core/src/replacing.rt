@@ -1,23 +1,21 @@
 //! Members of projections that are replaced.
 ghost use Rattle.std.specs.Prelude.{◌≡◌, ◌+◌, ◌<◌, ◌≤◌, true, length, None, All, IfOk, OnOk, OnErr};
-ghost use Rattle.ed_callbacks.specs.HookLists.{hook_table};
-ghost use Rattle.ed_entry.specs.declared.Event.{Event as Happening};
+ghost use Rattle.ed_base.specs.Hooks.{HookTable};
 ghost use Rattle.ed_group.specs.Answers.{LiesIn, members_now};
 ghost use Rattle.ed_group.specs.Laws.{RecordsStay};
 ghost use Rattle.ed_layers.specs.Records.{is_carrier};
 ghost use Rattle.ed_machine.specs.State.{count, record_now};
-ghost use Rattle.ed_machine.specs.Step.{step};
+ghost use Rattle.ed_machine.specs.Step.{told};
 ghost use Rattle.ed_script.specs.declared.Command.{Command as Told};
 ghost use Rattle.ed_core.specs.Asking.{HasSource, spans_refusal};
 ghost use Rattle.ed_core.specs.Deciding.{spans_outcome};
+ghost use Rattle.ed_core.specs.Doing.{Does};
 ghost use Rattle.ed_core.specs.Within.{IsWithin};
 
 use crate::landing::land;
 use crate::state::Core;
 use ed_base::{BufferNo, Member, Name, OutOfMemory, Refusal, ScriptSpanList, VersionNo};
-use ed_callbacks::Hooks;
 use ed_entry::Reply;
-use std::alloc::Global;
 
 impl Core {
     /// Why members of a buffer aren't replaced by these, but for what the stock forbids. `end` is the
@@ -52,7 +50,6 @@ impl Core {
     /// Replaces members of a projection by these, which lie inside their sources.
     fn set_spans(
         &mut self,
-        alloc: Global,
         buffer: BufferNo,
         first: u32,
         removed: u32,
@@ -70,36 +67,31 @@ impl Core {
     {
         let planned = self
             .stock
-            .plan_spans(alloc, buffer, first, removed, members);
+            .plan_spans(self.alloc, buffer, first, removed, members);
         land(&mut self.stock, planned)
     }
 
     /// Replaces members of a projection.
     pub(crate) fn replace_spans(
         &mut self,
-        alloc: Global,
-        hooks: &Hooks,
         name: &Name,
         first: u32,
         removed: u32,
         spans: &ScriptSpanList,
         at: &Option<VersionNo>,
     ) -> Result<Reply, OutOfMemory>
-        ensures reply { IfOk result (λ r. r ≡ (step (hook_table hooks.now) self.old (Happening.Told (Told.Spans name.now first removed spans.now at.now))).reply) }
-        ensures state { OnOk result (self.new ≡ (step (hook_table hooks.now) self.old (Happening.Told (Told.Spans name.now first removed spans.now at.now))).state) }
-        ensures err { OnErr result (self.new ≡ self.old) }
-        ensures stay { RecordsStay self.old.stock self.new.stock }
+        ensures { (hooks : HookTable) → Does (told hooks self.old (Told.Spans name.now first removed spans.now at.now)) self.old self.new result }
     {
         let Some(buffer) = self.number_of(name) else {
             return Ok(Reply::Refused(Refusal::NoBuffer));
         };
-        let Some(members) = self.members(alloc, spans.as_slice())? else {
+        let Some(members) = self.members(spans.as_slice())? else {
             return Ok(Reply::Refused(Refusal::NoBuffer));
         };
         let end = u64::from(first) + u64::from(removed);
         if let Some(refusal) = self.spans_refusal(buffer, at, end, members.as_slice()) {
             return Ok(Reply::Refused(refusal));
         }
-        self.set_spans(alloc, buffer, first, removed, members)
+        self.set_spans(buffer, first, removed, members)
     }
 }

@@ -1,16 +1,17 @@
 //! Read-only regions of the buffers of the core.
-ghost use Rattle.std.specs.Prelude.{◌≡◌, ◌+◌, ◌<◌, ◌≤◌, false, nat_eq, length, None, Some, Err, IfOk, OnOk, OnErr};
+ghost use Rattle.std.specs.Prelude.{◌≡◌, ◌+◌, ◌<◌, ◌≤◌, false, nat_eq, length, None, Some, Ok, Err, IfOk, OnOk, OnErr};
 ghost use Rattle.std.specs.List.{list_any};
 ghost use Rattle.ed_base.specs.Spans.{end_of};
 ghost use Rattle.ed_layers.specs.Records.{is_carrier};
 ghost use Rattle.ed_machine.specs.State.{count, record_now, text_now, buffer as buffer_of};
-ghost use Rattle.ed_machine.specs.Step.{step, within_limits, weighed};
+ghost use Rattle.ed_machine.specs.Step.{told, within_limits, weighed};
 ghost use Rattle.ed_machine.specs.Refusals.{no_hook};
+ghost use Rattle.ed_base.specs.Hooks.{HookTable};
 ghost use Rattle.ed_callbacks.specs.HookLists.{hook_table};
-ghost use Rattle.ed_entry.specs.declared.Event.{Event as Happening};
 ghost use Rattle.ed_group.specs.Laws.{RecordsStay};
 ghost use Rattle.ed_script.specs.declared.Command.{Command as Told};
 ghost use Rattle.ed_readonly.specs.declared.RegionFault.{RegionFault as Fault};
+ghost use Rattle.ed_core.specs.Doing.{Does};
 ghost use Rattle.ed_core.specs.RegionOutcomes.{region_gone, region_made, region_refusal, region_told};
 
 use crate::state::Core;
@@ -93,10 +94,7 @@ impl Core {
         mode: SpanMode,
         query: &Option<Name>,
     ) -> Result<Reply, OutOfMemory>
-        ensures reply { IfOk result (λ r. r ≡ (step (hook_table hooks.now) self.old (Happening.Told (Told.Region name.now span.start span.len edge mode query.now))).reply) }
-        ensures state { OnOk result (self.new ≡ (step (hook_table hooks.now) self.old (Happening.Told (Told.Region name.now span.start span.len edge mode query.now))).state) }
-        ensures err { OnErr result (self.new ≡ self.old) }
-        ensures stay { RecordsStay self.old.stock self.new.stock }
+        ensures { Does (told (hook_table hooks.now) self.old (Told.Region name.now span.start span.len edge mode query.now)) self.old self.new result }
     {
         let Some(buffer) = self.number_of(name) else {
             return Ok(Reply::Refused(Refusal::NoBuffer));
@@ -143,10 +141,8 @@ impl Core {
     }
 
     /// Removes a read-only region of a base.
-    pub(crate) fn remove_region(&mut self, hooks: &Hooks, name: &Name, region: RegionNo) -> Reply
-        ensures reply { result ≡ (step (hook_table hooks.now) self.old (Happening.Told (Told.Unregion name.now region))).reply }
-        ensures state { self.new ≡ (step (hook_table hooks.now) self.old (Happening.Told (Told.Unregion name.now region))).state }
-        ensures stay { RecordsStay self.old.stock self.new.stock }
+    pub(crate) fn remove_region(&mut self, name: &Name, region: RegionNo) -> Reply
+        ensures { (hooks : HookTable) → Does (told hooks self.old (Told.Unregion name.now region)) self.old self.new (Ok result) }
     {
         let Some(buffer) = self.number_of(name) else {
             return Reply::Refused(Refusal::NoBuffer);

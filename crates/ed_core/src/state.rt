@@ -24,6 +24,7 @@ pub struct Core {
     pub(crate) names: IndexSet<Name>,
     pub(crate) stock: Stock,
     answered: u64,
+    pub(crate) alloc: Global,
 }
 
 impl Model for Core {
@@ -49,6 +50,7 @@ impl Core {
             names: IndexSet::new(alloc),
             stock: Stock::new(alloc),
             answered: 0,
+            alloc,
         }
     }
 

@@ -1,45 +1,37 @@
 //! What an event does.
 ghost use Rattle.std.specs.Prelude.{◌≡◌, IfOk, OnOk, OnErr};
 ghost use Rattle.ed_callbacks.specs.HookLists.{hook_table};
-ghost use Rattle.ed_entry.specs.declared.Event.{Event as Happening};
 ghost use Rattle.ed_group.specs.Laws.{CurrentVector, OneVector, RecordsStay};
-ghost use Rattle.ed_machine.specs.Step.{step};
+ghost use Rattle.ed_machine.specs.Step.{step, told};
+ghost use Rattle.ed_core.specs.Doing.{Does};
 
 use crate::state::Core;
 use ed_base::{OutOfMemory, Span};
 use ed_callbacks::Hooks;
 use ed_entry::{Event, Reply};
 use ed_script::Command;
-use std::alloc::Global;
 
 impl Core {
-    /// Does what a command asks.
-    fn tell(
-        &mut self,
-        alloc: Global,
-        hooks: &Hooks,
-        command: &Command,
-    ) -> Result<Reply, OutOfMemory>
-        ensures reply { IfOk result (λ r. r ≡ (step (hook_table hooks.now) self.old (Happening.Told command.now)).reply) }
-        ensures state { OnOk result (self.new ≡ (step (hook_table hooks.now) self.old (Happening.Told command.now)).state) }
-        ensures err { OnErr result (self.new ≡ self.old) }
-        ensures stay { RecordsStay self.old.stock self.new.stock }
+    /// Does what a command asks. One that only reads finds its reply first, and then all are weighed
+    /// in one place.
+    fn tell(&mut self, hooks: &Hooks, command: &Command) -> Result<Reply, OutOfMemory>
+        ensures { Does (told (hook_table hooks.now) self.old command.now) self.old self.new result }
     {
-        match command {
-            Command::Buffer { name, text } => self.make_buffer(alloc, hooks, name, text),
-            Command::Projection { name, spans } => self.make_projection(alloc, hooks, name, spans),
+        let reply = match command {
+            Command::Buffer { name, text } => return self.make_buffer(name, text),
+            Command::Projection { name, spans } => return self.make_projection(name, spans),
             Command::Edit {
                 buffer,
                 replaces,
                 at,
-            } => self.edit(alloc, hooks, buffer, replaces, at),
+            } => return self.edit(hooks, buffer, replaces, at),
             Command::Spans {
                 buffer,
                 first,
                 count,
                 spans,
                 at,
-            } => self.replace_spans(alloc, hooks, buffer, *first, *count, spans, at),
+            } => return self.replace_spans(buffer, *first, *count, spans, at),
             Command::Region {
                 buffer,
                 start,
@@ -49,40 +41,24 @@ impl Core {
                 query,
             } => {
                 let (start, len) = (*start, *len);
-                self.add_region(hooks, buffer, Span { start, len }, *edge, *mode, query)
+                return self.add_region(hooks, buffer, Span { start, len }, *edge, *mode, query);
             }
-            Command::Unregion { buffer, region } => Ok(self.remove_region(hooks, buffer, *region)),
+            Command::Unregion { buffer, region } => return Ok(self.remove_region(buffer, *region)),
             Command::Readonly { buffer, start, len } => {
                 let (start, len) = (*start, *len);
-                let reply = self.readonly_told(hooks, buffer, Span { start, len });
-                Ok(self.answer(reply))
+                self.readonly_told(hooks, buffer, Span { start, len })
             }
-            Command::Text { buffer, at } => {
-                let reply = self.text_told(hooks, buffer, at)?;
-                Ok(self.answer(reply))
-            }
-            Command::Lines { buffer, at } => {
-                let reply = self.lines_told(alloc, hooks, buffer, at)?;
-                Ok(self.answer(reply))
-            }
-            Command::Changes { buffer, from } => {
-                let reply = self.changes_told(hooks, buffer, *from)?;
-                Ok(self.answer(reply))
-            }
-            Command::Versions { buffer } => {
-                let reply = self.versions_told(alloc, hooks, buffer)?;
-                Ok(self.answer(reply))
-            }
+            Command::Text { buffer, at } => self.text_told(buffer, at)?,
+            Command::Lines { buffer, at } => self.lines_told(buffer, at)?,
+            Command::Changes { buffer, from } => self.changes_told(buffer, *from)?,
+            Command::Versions { buffer } => self.versions_told(buffer)?,
             Command::Point {
                 buffer,
                 pos,
                 mode,
                 at,
                 to,
-            } => {
-                let reply = self.point_told(hooks, buffer, *pos, *mode, at, to);
-                Ok(self.answer(reply))
-            }
+            } => self.point_told(buffer, *pos, *mode, at, to),
             Command::Span {
                 buffer,
                 start,
@@ -92,10 +68,10 @@ impl Core {
                 to,
             } => {
                 let (start, len) = (*start, *len);
-                let reply = self.span_told(hooks, buffer, Span { start, len }, how, at, to);
-                Ok(self.answer(reply))
+                self.span_told(hooks, buffer, Span { start, len }, how, at, to)
             }
-        }
+        };
+        Ok(self.answer(reply))
     }
 
     /// Does what an event asks, and answers.
@@ -104,12 +80,7 @@ impl Core {
     ///
     /// Memory was refused; the core is as it was.
     #[tactic(auto, unfolding(ed_machine::specs::Step::step))]
-    pub fn step(
-        &mut self,
-        alloc: Global,
-        hooks: &Hooks,
-        event: &Event,
-    ) -> Result<Reply, OutOfMemory>
+    pub fn step(&mut self, hooks: &Hooks, event: &Event) -> Result<Reply, OutOfMemory>
         ensures reply { IfOk result (λ r. r ≡ (step (hook_table hooks.now) self.old event.now).reply) }
         ensures state { OnOk result (self.new ≡ (step (hook_table hooks.now) self.old event.now).state) }
         ensures err { OnErr result (self.new ≡ self.old) }
@@ -119,7 +90,7 @@ impl Core {
     {
         match event {
             Event::Told(command) => {
-                let told = self.tell(alloc, hooks, command);
+                let told = self.tell(hooks, command);
                 // The number of buffers is looked at for the laws.
                 let _count = self.count();
                 told

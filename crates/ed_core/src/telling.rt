@@ -1,5 +1,6 @@
 //! Commands that only read, by the names that they give.
 ghost use Rattle.std.specs.Prelude.{◌≡◌, IfOk};
+ghost use Rattle.ed_base.specs.Hooks.{HookTable};
 ghost use Rattle.ed_callbacks.specs.HookLists.{hook_table};
 ghost use Rattle.ed_script.specs.declared.Command.{Command as Told};
 ghost use Rattle.ed_core.specs.Reading.{read_answer};
@@ -8,18 +9,16 @@ use crate::state::Core;
 use ed_base::{Name, OutOfMemory, PointMode, Refusal, Span, SpanHow, VersionNo};
 use ed_callbacks::Hooks;
 use ed_entry::Reply;
-use std::alloc::Global;
 
 impl Core {
     /// The answer to `text`.
     #[tactic(auto, using(crate::proofs::Answering::text_read), unfolding(ed_machine::specs::Refusals::tests))]
     pub(crate) fn text_told(
         &self,
-        hooks: &Hooks,
         name: &Name,
         at: &Option<VersionNo>,
     ) -> Result<Reply, OutOfMemory>
-        ensures { IfOk result (λ r. r ≡ read_answer (hook_table hooks.now) self.now (Told.Text name.now at.now)) }
+        ensures { (hooks : HookTable) → IfOk result (λ r. r ≡ read_answer hooks self.now (Told.Text name.now at.now)) }
     {
         match self.number_of(name) {
             None => Ok(Reply::Refused(Refusal::NoBuffer)),
@@ -31,28 +30,21 @@ impl Core {
     #[tactic(auto, using(crate::proofs::Answering::lines_read), unfolding(ed_machine::specs::Refusals::tests))]
     pub(crate) fn lines_told(
         &self,
-        alloc: Global,
-        hooks: &Hooks,
         name: &Name,
         at: &Option<VersionNo>,
     ) -> Result<Reply, OutOfMemory>
-        ensures { IfOk result (λ r. r ≡ read_answer (hook_table hooks.now) self.now (Told.Lines name.now at.now)) }
+        ensures { (hooks : HookTable) → IfOk result (λ r. r ≡ read_answer hooks self.now (Told.Lines name.now at.now)) }
     {
         match self.number_of(name) {
             None => Ok(Reply::Refused(Refusal::NoBuffer)),
-            Some(buffer) => self.lines(alloc, buffer, at),
+            Some(buffer) => self.lines(buffer, at),
         }
     }
 
     /// The answer to `changes`.
     #[tactic(auto, using(crate::proofs::Answering::changes_read), unfolding(ed_machine::specs::Refusals::tests))]
-    pub(crate) fn changes_told(
-        &self,
-        hooks: &Hooks,
-        name: &Name,
-        from: VersionNo,
-    ) -> Result<Reply, OutOfMemory>
-        ensures { IfOk result (λ r. r ≡ read_answer (hook_table hooks.now) self.now (Told.Changes name.now from)) }
+    pub(crate) fn changes_told(&self, name: &Name, from: VersionNo) -> Result<Reply, OutOfMemory>
+        ensures { (hooks : HookTable) → IfOk result (λ r. r ≡ read_answer hooks self.now (Told.Changes name.now from)) }
     {
         match self.number_of(name) {
             None => Ok(Reply::Refused(Refusal::NoBuffer)),
@@ -62,17 +54,12 @@ impl Core {
 
     /// The answer to `versions`.
     #[tactic(auto, using(crate::proofs::Answering::versions_read), unfolding(ed_machine::specs::Refusals::tests))]
-    pub(crate) fn versions_told(
-        &self,
-        alloc: Global,
-        hooks: &Hooks,
-        name: &Name,
-    ) -> Result<Reply, OutOfMemory>
-        ensures { IfOk result (λ r. r ≡ read_answer (hook_table hooks.now) self.now (Told.Versions name.now)) }
+    pub(crate) fn versions_told(&self, name: &Name) -> Result<Reply, OutOfMemory>
+        ensures { (hooks : HookTable) → IfOk result (λ r. r ≡ read_answer hooks self.now (Told.Versions name.now)) }
     {
         match self.number_of(name) {
             None => Ok(Reply::Refused(Refusal::NoBuffer)),
-            Some(buffer) => self.versions(alloc, buffer),
+            Some(buffer) => self.versions(buffer),
         }
     }
 
@@ -80,14 +67,13 @@ impl Core {
     #[tactic(auto, using(crate::proofs::Answering::point_read), unfolding(ed_machine::specs::Refusals::tests))]
     pub(crate) fn point_told(
         &self,
-        hooks: &Hooks,
         name: &Name,
         pos: u32,
         mode: PointMode,
         at: &Option<VersionNo>,
         to: &Option<VersionNo>,
     ) -> Reply
-        ensures { result ≡ read_answer (hook_table hooks.now) self.now (Told.Point name.now pos mode at.now to.now) }
+        ensures { (hooks : HookTable) → result ≡ read_answer hooks self.now (Told.Point name.now pos mode at.now to.now) }
     {
         match self.number_of(name) {
             None => Reply::Refused(Refusal::NoBuffer),

@@ -21,7 +21,6 @@ pub struct Told {
 
 /// One more entry: the command, told by seat 0, and the reply of the core.
 fn tell(
-    alloc: Global,
     hooks: &Hooks,
     core: &mut Core,
     entries: &mut Vec<Entry>,
@@ -34,7 +33,7 @@ fn tell(
 {
     entries.reserve(1)?;
     let event = Event::Told(command);
-    let reply = core.step(alloc, hooks, &event)?;
+    let reply = core.step(hooks, &event)?;
     entries.push_reserved(Entry {
         seat: SeatNo(0),
         event,
@@ -52,7 +51,7 @@ pub fn tell_all(alloc: Global, hooks: &Hooks, commands: Vec<Command>) -> Told
     let mut core = Core::new(alloc);
     let mut entries = Vec::new(alloc);
     for command in commands {
-        let Ok(()) = tell(alloc, hooks, &mut core, &mut entries, command) else {
+        let Ok(()) = tell(hooks, &mut core, &mut entries, command) else {
             return Told {
                 entries,
                 is_whole: false,

@@ -1,47 +1,43 @@
-use Rattle.std.proofs.Common.{◌∙◌, ap}
+-- What a command's function does is said of the command that it matched; what only reads is answered in one place.
+use Rattle.std.proofs.Common.{◌≡◌, Ok, ap, sym, subst, ◌∙◌}
 use Rattle.ed_callbacks.specs.HookLists.{hook_table}
-use Rattle.ed_machine.specs.Accepted.{Outcome}
+use Rattle.ed_machine.specs.Accepted.{Outcome, answers}
+use Rattle.ed_machine.specs.Step.{told, weighed, within_limits}
+use Rattle.ed_script.specs.declared.kinds.Command.{Command}
+use Rattle.ed_core.specs.Doing.{Does}
 use Rattle.ed_core.proofs.Answering.{answered_as, text_reads, lines_reads, changes_reads, versions_reads, point_reads, span_reads, readonly_reads}
+use Rattle.ed_core.proofs.state.Core.tell.Goals.{in-Readonly, in-Text+in_ok-reply-in-Text, in-Lines+in_ok-reply-in-Lines, in-Changes+in_ok-reply-in-Changes, in-Versions+in_ok-reply-in-Versions, in-Point, in-Span}
 use Rattle.ed_core.proofs.state.Core.tell.Goals as goal
 
-pub returns-in-Readonly-clause-reply : goal.returns-in-Readonly-clause-reply
-returns-in-Readonly-clause-reply g c = c.answer.ensures.reply ∙ ap (λ (o : Outcome). o.reply) (answered_as (hook_table c.args.hooks.now) c.args.self.now _ _ _ c.in-Readonly.is c.answer.ensures.within (readonly_reads (hook_table c.args.hooks.now) c.args.self.now _ _ _) c.readonly_told-reply.ensures)
+pub returns-in-Buffer : goal.returns-in-Buffer
+returns-in-Buffer g c = subst (λ (x : Command). Does (told (hook_table c.args.hooks.now) c.args.self.now x) c.args.self.now c.make_buffer.new.self c.make_buffer.result) (sym c.in-Buffer.is) (c.make_buffer.ensures (hook_table c.args.hooks.now))
 
-pub returns-in-Readonly-clause-state : goal.returns-in-Readonly-clause-state
-returns-in-Readonly-clause-state g c = c.answer.ensures.state ∙ ap (λ (o : Outcome). o.state) (answered_as (hook_table c.args.hooks.now) c.args.self.now _ _ _ c.in-Readonly.is c.answer.ensures.within (readonly_reads (hook_table c.args.hooks.now) c.args.self.now _ _ _) c.readonly_told-reply.ensures)
+pub returns-in-Projection : goal.returns-in-Projection
+returns-in-Projection g c = subst (λ (x : Command). Does (told (hook_table c.args.hooks.now) c.args.self.now x) c.args.self.now c.make_projection.new.self c.make_projection.result) (sym c.in-Projection.is) (c.make_projection.ensures (hook_table c.args.hooks.now))
 
-pub returns-in_ok-reply-in-Text-clause-reply : goal.returns-in_ok-reply-in-Text-clause-reply
-returns-in_ok-reply-in-Text-clause-reply g c = c.answer-in-Text.ensures.reply ∙ ap (λ (o : Outcome). o.reply) (answered_as (hook_table c.args.hooks.now) c.args.self.now _ _ _ c.in-Text.is c.answer-in-Text.ensures.within (text_reads (hook_table c.args.hooks.now) c.args.self.now _ _) c.in_ok-reply-in-Text.ensures)
+pub returns-in-Spans : goal.returns-in-Spans
+returns-in-Spans g c = subst (λ (x : Command). Does (told (hook_table c.args.hooks.now) c.args.self.now x) c.args.self.now c.replace_spans.new.self c.replace_spans.result) (sym c.in-Spans.is) (c.replace_spans.ensures (hook_table c.args.hooks.now))
 
-pub returns-in_ok-reply-in-Text-clause-state : goal.returns-in_ok-reply-in-Text-clause-state
-returns-in_ok-reply-in-Text-clause-state g c = c.answer-in-Text.ensures.state ∙ ap (λ (o : Outcome). o.state) (answered_as (hook_table c.args.hooks.now) c.args.self.now _ _ _ c.in-Text.is c.answer-in-Text.ensures.within (text_reads (hook_table c.args.hooks.now) c.args.self.now _ _) c.in_ok-reply-in-Text.ensures)
+pub returns-in-Unregion : goal.returns-in-Unregion
+returns-in-Unregion g c = subst (λ (x : Command). Does (told (hook_table c.args.hooks.now) c.args.self.now x) c.args.self.now c.remove_region.new.self (Ok c.remove_region.result)) (sym c.in-Unregion.is) (c.remove_region.ensures (hook_table c.args.hooks.now))
 
-pub returns-in_ok-reply-in-Lines-clause-reply : goal.returns-in_ok-reply-in-Lines-clause-reply
-returns-in_ok-reply-in-Lines-clause-reply g c = c.answer-in-Lines.ensures.reply ∙ ap (λ (o : Outcome). o.reply) (answered_as (hook_table c.args.hooks.now) c.args.self.now _ _ _ c.in-Lines.is c.answer-in-Lines.ensures.within (lines_reads (hook_table c.args.hooks.now) c.args.self.now _ _) c.in_ok-reply-in-Lines.ensures)
-
-pub returns-in_ok-reply-in-Lines-clause-state : goal.returns-in_ok-reply-in-Lines-clause-state
-returns-in_ok-reply-in-Lines-clause-state g c = c.answer-in-Lines.ensures.state ∙ ap (λ (o : Outcome). o.state) (answered_as (hook_table c.args.hooks.now) c.args.self.now _ _ _ c.in-Lines.is c.answer-in-Lines.ensures.within (lines_reads (hook_table c.args.hooks.now) c.args.self.now _ _) c.in_ok-reply-in-Lines.ensures)
-
-pub returns-in_ok-reply-in-Changes-clause-reply : goal.returns-in_ok-reply-in-Changes-clause-reply
-returns-in_ok-reply-in-Changes-clause-reply g c = c.answer-in-Changes.ensures.reply ∙ ap (λ (o : Outcome). o.reply) (answered_as (hook_table c.args.hooks.now) c.args.self.now _ _ _ c.in-Changes.is c.answer-in-Changes.ensures.within (changes_reads (hook_table c.args.hooks.now) c.args.self.now _ _) c.in_ok-reply-in-Changes.ensures)
-
-pub returns-in_ok-reply-in-Changes-clause-state : goal.returns-in_ok-reply-in-Changes-clause-state
-returns-in_ok-reply-in-Changes-clause-state g c = c.answer-in-Changes.ensures.state ∙ ap (λ (o : Outcome). o.state) (answered_as (hook_table c.args.hooks.now) c.args.self.now _ _ _ c.in-Changes.is c.answer-in-Changes.ensures.within (changes_reads (hook_table c.args.hooks.now) c.args.self.now _ _) c.in_ok-reply-in-Changes.ensures)
-
-pub returns-in_ok-reply-in-Versions-clause-reply : goal.returns-in_ok-reply-in-Versions-clause-reply
-returns-in_ok-reply-in-Versions-clause-reply g c = c.answer-in-Versions.ensures.reply ∙ ap (λ (o : Outcome). o.reply) (answered_as (hook_table c.args.hooks.now) c.args.self.now _ _ _ c.in-Versions.is c.answer-in-Versions.ensures.within (versions_reads (hook_table c.args.hooks.now) c.args.self.now _) c.in_ok-reply-in-Versions.ensures)
-
-pub returns-in_ok-reply-in-Versions-clause-state : goal.returns-in_ok-reply-in-Versions-clause-state
-returns-in_ok-reply-in-Versions-clause-state g c = c.answer-in-Versions.ensures.state ∙ ap (λ (o : Outcome). o.state) (answered_as (hook_table c.args.hooks.now) c.args.self.now _ _ _ c.in-Versions.is c.answer-in-Versions.ensures.within (versions_reads (hook_table c.args.hooks.now) c.args.self.now _) c.in_ok-reply-in-Versions.ensures)
-
-pub returns-in-Point-clause-reply : goal.returns-in-Point-clause-reply
-returns-in-Point-clause-reply g c = c.answer-in-Point.ensures.reply ∙ ap (λ (o : Outcome). o.reply) (answered_as (hook_table c.args.hooks.now) c.args.self.now _ _ _ c.in-Point.is c.answer-in-Point.ensures.within (point_reads (hook_table c.args.hooks.now) c.args.self.now _ _ _ _ _) c.point_told-reply.ensures)
-
-pub returns-in-Point-clause-state : goal.returns-in-Point-clause-state
-returns-in-Point-clause-state g c = c.answer-in-Point.ensures.state ∙ ap (λ (o : Outcome). o.state) (answered_as (hook_table c.args.hooks.now) c.args.self.now _ _ _ c.in-Point.is c.answer-in-Point.ensures.within (point_reads (hook_table c.args.hooks.now) c.args.self.now _ _ _ _ _) c.point_told-reply.ensures)
-
-pub returns-in-Span-clause-reply : goal.returns-in-Span-clause-reply
-returns-in-Span-clause-reply g c = c.answer-in-Span.ensures.reply ∙ ap (λ (o : Outcome). o.reply) (answered_as (hook_table c.args.hooks.now) c.args.self.now _ _ _ c.in-Span.is c.answer-in-Span.ensures.within (span_reads (hook_table c.args.hooks.now) c.args.self.now _ _ _ _ _ _) c.span_told-reply.ensures)
-
-pub returns-in-Span-clause-state : goal.returns-in-Span-clause-state
-returns-in-Span-clause-state g c = c.answer-in-Span.ensures.state ∙ ap (λ (o : Outcome). o.state) (answered_as (hook_table c.args.hooks.now) c.args.self.now _ _ _ c.in-Span.is c.answer-in-Span.ensures.within (span_reads (hook_table c.args.hooks.now) c.args.self.now _ _ _ _ _ _) c.span_told-reply.ensures)
+pub returns : goal.returns
+returns g c =
+    let hooks = hook_table c.args.hooks.now in
+    let s = c.args.self.now in
+    let reads : within_limits s (weighed (answers s c.match-command.reply)) ≡ told hooks s c.args.command.now =
+    elim c.match-command.branch [
+      | in-Readonly w ↦ ap (λ r. within_limits s (weighed (answers s r))) w.reply-is ∙ answered_as hooks s _ _ _ w.in-Readonly.is c.answer.ensures.within (readonly_reads hooks s _ _ _) w.readonly_told-reply.ensures
+      | in-Text+in_ok-reply-in-Text w ↦ ap (λ r. within_limits s (weighed (answers s r))) w.reply-is ∙ answered_as hooks s _ _ _ w.in-Text.is c.answer.ensures.within (text_reads hooks s _ _) (w.in_ok-reply-in-Text.ensures hooks)
+      | in-Lines+in_ok-reply-in-Lines w ↦ ap (λ r. within_limits s (weighed (answers s r))) w.reply-is ∙ answered_as hooks s _ _ _ w.in-Lines.is c.answer.ensures.within (lines_reads hooks s _ _) (w.in_ok-reply-in-Lines.ensures hooks)
+      | in-Changes+in_ok-reply-in-Changes w ↦ ap (λ r. within_limits s (weighed (answers s r))) w.reply-is ∙ answered_as hooks s _ _ _ w.in-Changes.is c.answer.ensures.within (changes_reads hooks s _ _) (w.in_ok-reply-in-Changes.ensures hooks)
+      | in-Versions+in_ok-reply-in-Versions w ↦ ap (λ r. within_limits s (weighed (answers s r))) w.reply-is ∙ answered_as hooks s _ _ _ w.in-Versions.is c.answer.ensures.within (versions_reads hooks s _) (w.in_ok-reply-in-Versions.ensures hooks)
+      | in-Point w ↦ ap (λ r. within_limits s (weighed (answers s r))) w.reply-is ∙ answered_as hooks s _ _ _ w.in-Point.is c.answer.ensures.within (point_reads hooks s _ _ _ _ _) (w.point_told-reply.ensures hooks)
+      | in-Span w ↦ ap (λ r. within_limits s (weighed (answers s r))) w.reply-is ∙ answered_as hooks s _ _ _ w.in-Span.is c.answer.ensures.within (span_reads hooks s _ _ _ _ _ _) w.span_told-reply.ensures
+    ] in
+    record {
+      reply = c.answer.ensures.reply ∙ ap (λ (o : Outcome). o.reply) reads;
+      state = c.answer.ensures.state ∙ ap (λ (o : Outcome). o.state) reads;
+      err = tt;
+      stay = c.answer.ensures.stay;
+    }
