@@ -51,22 +51,30 @@ impl Members {
     ///
     /// `Mode` names the first inclusive member that doesn't cover its source, exactly where there
     /// is one. Else `Overlap` names the first member that conflicts with one behind it, and the
-    /// first such one, exactly where there is one. Else memory may be refused.
+    /// first such one, exactly where there is one. Else memory may be refused; all members together
+    /// having 2^32 units or more counts as that. 2^32 members or more aren't judged and count as want
+    /// of memory.
     pub fn of(
         alloc: Global,
         list: Vec<Member>,
         source_len: &[(BufferNo, u32)],
     ) -> Result<Members, MemberFault>
-        requires few { length list.items < 2 ^ 32 }
-        requires short { members_len list.items < 2 ^ 32 }
         ensures members { IfOk result (λ m. m ≡ list.items) }
-        ensures fault { MatchOption (first_fault (len_in source_len.now) list.items) (IfErr result (λ e. e ≡ MemberFault.OutOfMemory)) (λ r. IsErrAnd result (λ e. refusal_of e ≡ Some r)) }
+        ensures few { IfOk result (λ m. length m < 2 ^ 32) }
+        ensures short { IfOk result (λ m. members_len m < 2 ^ 32) }
+        ensures fault { MatchOption (first_fault (len_in source_len.now) list.items) (IfErr result (λ e. e ≡ MemberFault.OutOfMemory)) (λ r. IsErrAnd result (λ e. (e ≡ MemberFault.OutOfMemory) × (2 ^ 32 ≤ length list.items) ⊎ (refusal_of e ≡ Some r))) }
     {
+        if list.len() > u32::MAX as usize {
+            return Err(MemberFault::OutOfMemory);
+        }
         if let Some(index) = uncovered(source_len, &list) {
             return Err(MemberFault::Mode { index });
         }
         if let Some((index, other)) = conflicting(alloc, &list) {
             return Err(MemberFault::Overlap { index, other });
+        }
+        if !are_short(&list) {
+            return Err(MemberFault::OutOfMemory);
         }
         let (starts, total) = starts_of(alloc, &list)?;
         Ok(Members {
@@ -92,8 +100,6 @@ impl Members {
         source_len: &[(BufferNo, u32)],
     ) -> Result<Members, MemberFault>
         requires there { first + count ≤ length self.now }
-        requires few { length (replaced self.now first count list.items) < 2 ^ 32 }
-        requires short { members_len (replaced self.now first count list.items) < 2 ^ 32 }
         ensures members { IfOk result (λ m. m ≡ replaced self.now first count list.items) }
         ensures fault { MatchOption (first_fault (len_in source_len.now) (replaced self.now first count list.items)) (IfErr result (λ e. e ≡ MemberFault.OutOfMemory)) (λ r. IsErrAnd result (λ e. (e ≡ MemberFault.OutOfMemory) ⊎ (refusal_of e ≡ Some r))) }
     {
