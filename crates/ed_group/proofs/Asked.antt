@@ -22,8 +22,8 @@ use Rattle.ed_group.specs.Asking.{IsBase}
 use Rattle.ed_group.specs.Kept.{IsKept}
 use Rattle.ed_group.specs.Seen.{base_record, known, last_of, reiterated_of, stock, text_of}
 use Rattle.ed_group.proofs.Advanced.{element}
-use Rattle.ed_group.proofs.Growth.{missing}
-use Rattle.ed_group.proofs.RisingSteps.{get_last}
+use Rattle.ed_risen.proofs.Growth.{missing}
+use Rattle.ed_risen.proofs.RisingLemmas.{get_last}
 use Rattle.ed_group.proofs.Snapshots.{get_map}
 
 -- ---- within the limits
@@ -143,3 +143,12 @@ pub projection_repeats : (x : Buffer) (vs : List Shown) → x.records ≡ map re
 projection_repeats x vs is =
     map_itself (reiterated_of x) (places (length vs)) (λ i. ap (λ rs. option_map_or (λ r. reiterated_in r i) (slice_get rs i) i) is ∙ itself_at vs i i)
     ∙ ap (λ n. map (reiterated_of x) (places n)) (sym (ap length is ∙ length-map vs record_of))
+
+-- a buffer that is there is held
+pub held_there : (hs : List Held) (b : ℕ) → b < length hs → (h : Held) × (slice_get hs b ≡ Some h)
+held_there [] b l = absurd (omega arith)
+held_there (h ∷ hs) zero l = (h, refl)
+held_there (h ∷ hs) (suc b) l = held_there hs b (omega arith)
+
+pub held_at : (hs : List Held) (b : ℕ) → b < count (stock hs) → (h : Held) × (slice_get hs b ≡ Some h)
+held_at hs b there = held_there hs b (subst (λ n. b < n) (length-map (map known hs) _ ∙ length-map hs known) there)

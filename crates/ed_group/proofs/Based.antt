@@ -22,12 +22,13 @@ use Rattle.ed_group.specs.declared.held.Held.{Held}
 use Rattle.ed_group.specs.Kept.{IsKept}
 use Rattle.ed_group.specs.Limited.{new_limit, passed}
 use Rattle.ed_group.specs.Seen.{Known, base_record, known, stock, stock_of}
-use Rattle.ed_group.proofs.Counting.{inserted_new_base, new_buffer, placements_new, versions_new}
-use Rattle.ed_group.proofs.Growth.{grown_last, grown_now, missing}
-use Rattle.ed_group.proofs.Lists.{get_past}
+use Rattle.ed_risen.proofs.Counting.{inserted_new_base, new_buffer, placements_new, versions_new}
+use Rattle.ed_risen.proofs.Growth.{grown_last, grown_now, missing}
+use Rattle.ed_risen.proofs.Lists.{get_past}
 use Rattle.ed_group.proofs.NewBuffer.{new_grows, new_kept, new_stock}
-use Rattle.ed_group.proofs.NewLimits.{each_none, limits_new}
-use Rattle.ed_group.proofs.Showing.{base_text}
+use Rattle.ed_risen.proofs.OneLimit.{each_none}
+use Rattle.ed_group.proofs.NewLimits.{limits_new}
+use Rattle.ed_risen.proofs.Texts.{base_text}
 
 -- ---- answers
 

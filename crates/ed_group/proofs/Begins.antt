@@ -31,13 +31,13 @@ use Rattle.ed_group.specs.Spanning.{CanRespan, HasRespanned, HasReshown, Shows, 
 use Rattle.ed_group.proofs.Advanced.{same_known}
 use Rattle.ed_group.proofs.Asked.{base_last}
 use Rattle.ed_group.proofs.Based.{held_count, held_len, refuses_this}
-use Rattle.ed_group.proofs.Climb.{among_itself}
-use Rattle.ed_group.proofs.Lists.{clash}
+use Rattle.ed_risen.proofs.Lists.{among_itself, clash}
 use Rattle.ed_group.proofs.Respanned.{linked_here, linked_len, linked_other, shown_lies}
 use Rattle.ed_group.proofs.Routes.{is_route}
 use Rattle.ed_group.proofs.Snapshots.{held_buffer, held_record, snaps, snaps_versions}
 use Rattle.ed_group.proofs.Spanned.{spans_begin, spans_too_long}
-use Rattle.ed_group.proofs.Within.{short_texts}
+use Rattle.ed_risen.proofs.Limits.{few_buffers, texts_fit}
+use Rattle.ed_risen.proofs.RisingLemmas.{levels}
 
 -- ---- what was planned
 
@@ -70,10 +70,6 @@ added_is old first removed added part =
     ∙ ap (λ xs. take (length added) (drop first xs)) (append_assoc (take first old) added (drop (first + removed) old))
     ∙ ap (take (length added)) (drop_front first old (added ++ drop (first + removed) old) (omega arith))
     ∙ take_front added (drop (first + removed) old)
-
--- what stands within the limits has no text that is too long
-texts_fit : (s : Stock) → first_some (stock_limits s) ≡ None → (d : ℕ) → d < count s → length (text_now s d) ≤ 2 ^ 22
-texts_fit s within d in_ = ltb-false (2 ^ 22) (length (text_now s d)) (short_texts s within d in_)
 
 -- a buffer that isn't the only one
 pub not_only : (b c : ℕ) → is_among c (b ∷ []) ≡ false → c ≢ b
@@ -142,7 +138,7 @@ module _ (hs : List Held) (graph : List (List ℕ)) (counts : Counts) (kept : Is
         | inl l ↦ refuses_this (Unit {0}) (spans_fault (stock hs) b first removed added) r
             (limits
             ∙ spans_too_long hs kept.settled (linked graph b sources) (linked_len hs graph counts kept levelled b there first removed added lies sources) then_levelled b there (linked_other hs graph counts kept levelled b there first removed added lies sources) shown
-            (linked_here hs graph counts kept levelled b there first removed added lies sources) (shown_lies hs graph counts kept levelled b there first removed added lies) first removed added refl kept.within (texts_fit (stock hs) kept.within) (subst (λ n. 2 ^ 22 < n) k_is l)
+            (linked_here hs graph counts kept levelled b there first removed added lies sources) (shown_lies hs graph counts kept levelled b there first removed added lies) first removed added refl (few_buffers (stock hs) kept.within) (texts_fit (stock hs) kept.within) (subst (λ n. 2 ^ 22 < n) k_is l)
             ∙ ap (λ n. Some (Refusal.Limit Which.Units n)) (sym k_is)
             ∙ sym (ap (λ t. if t then Some (Refusal.Limit Which.Units k) else None) (lt-ltb (2 ^ 22) k l)) ∙ over)
       ]
@@ -176,7 +172,6 @@ module _ (hs : List Held) (graph : List (List ℕ)) (counts : Counts) (kept : Is
                 graph_is = g_is;
                 levelled = levels;
                 limits = limits;
-                route = is_route (spans_route hs g b (spans_first (stock hs) b (stay_around first removed (length added)) shown)) g graph_len (λ c out. others c (not_only b c out)) levels refl (record { numbered = kept.numbered; texts = kept.texts }) kept.settled;
                 climbs = spans_begin hs kept.settled g graph_len levels b there others shown here (shown_lies hs graph counts kept levelled b there first removed added lies) hs' (record { numbered = kept.numbered; texts = kept.texts }) (texts_fit (stock hs) kept.within) inside
                     p.0 is_shown.0 p.1 held is_shown.1 is_shown.2.same n next.planned members_same
                     (next.versions ∙ ap versions_of ss_is ∙ snaps_versions (stock hs) named ∙ at_now_by sources)

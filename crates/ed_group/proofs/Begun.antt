@@ -14,6 +14,7 @@ use Rattle.ed_group.specs.declared.held.Held.{Held}
 use Rattle.ed_group.specs.declared.moves.Move.{Move}
 use Rattle.ed_group.specs.declared.moves.Planned.{Planned}
 use Rattle.ed_group.proofs.Advanced.{map_set}
+use Rattle.ed_risen.proofs.Turns.{turns}
 
 abbrev pub move_of_step : ℕ → NextVersion → Move
 move_of_step b st = record { buffer = b; planned = Planned.Base st }

@@ -26,23 +26,25 @@ use Rattle.ed_group.specs.declared.moves.Move.{Move}
 use Rattle.ed_group.specs.declared.moves.Planned.{Planned}
 use Rattle.ed_group.specs.Advancing.{IsNextOf}
 use Rattle.ed_group.specs.Climbing.{CanRise, is_over, sources_held, source_snapshots}
-use Rattle.ed_group.specs.Founded.{Founded, Extends}
-use Rattle.ed_group.specs.Growing.{Grows}
+use Rattle.ed_risen.specs.Founded.{Founded, Extends}
+use Rattle.ed_risen.specs.Growing.{Grows}
 use Rattle.ed_group.specs.Moves.{AreApart, IsPlannedAt, CanMake, changes_of, move_of, move_seen, rising_of, snapshot_after, with_move}
-use Rattle.ed_group.specs.Rising.{EndsIn, Inside, IsLow, IsSettled, Rises, plain}
+use Rattle.ed_risen.specs.Rising.{EndsIn, Inside, IsLow, IsSettled, Rises, plain}
 use Rattle.ed_group.specs.Route.{AreTrue, Climbs, IsNewest, IsReached, IsRoute, Route, newest}
-use Rattle.ed_group.specs.Seen.{base_record, known, seen, stock, stock_of}
+use Rattle.ed_group.specs.Seen.{base_record, known, seen, stock, stock_of, Known}
 use Rattle.ed_version.specs.declared.Version.{Version}
 use Rattle.ed_version.specs.declared.Snapshot.{Snapshot}
 use Rattle.ed_group.proofs.Advanced.{map_set, same_known}
-use Rattle.ed_group.proofs.Ended.{each_at}
-use Rattle.ed_group.proofs.FoundedLemmas.{each_version, each_weaker, founded_in, founded_more}
-use Rattle.ed_group.proofs.Growth.{grown_extends, grown_last, grown_now, grown_now_other, grown_record_other, grown_text_now, same_growth, set_grows, set_here, set_other, version_grows}
-use Rattle.ed_group.proofs.Lengths.{ArePlain, length_slots, plain_trails, step_in_old, step_in_push}
-use Rattle.ed_group.proofs.Showing.{named_text, projection_text, same_text}
+use Rattle.ed_risen.proofs.Settled.{each_at}
+use Rattle.ed_risen.proofs.FoundedLemmas.{each_version, each_weaker, founded_in, founded_more}
+use Rattle.ed_risen.proofs.Growth.{grown_extends, grown_last, grown_now, grown_now_other, grown_record_other, grown_text_now, same_growth, set_grows, set_here, set_other, version_grows}
+use Rattle.ed_risen.proofs.Lengths.{ArePlain, length_slots, plain_trails, step_in_old, step_in_push}
+use Rattle.ed_risen.proofs.Texts.{named_text, projection_text, same_text}
 use Rattle.ed_group.proofs.Moved.{any_moved, step_of_move}
-use Rattle.ed_group.proofs.RisingSteps.{at_now_each, get_last, levels, other_than, same_record, some_records, stays, steps, unmoved_text}
-use Rattle.ed_group.proofs.Snapshots.{each_of, found_buffer, found_each, get_map, have_sources, held_buffer, held_record, members_inside, newest_same, owns_in_order, owns_inside, snaps, snaps_text, snaps_versions, snapshot_is, within_old}
+use Rattle.ed_risen.proofs.RisingLemmas.{at_now_each, get_last, levels, other_than, same_record, some_records, stays, steps, unmoved_text}
+use Rattle.ed_group.proofs.Snapshots.{found_buffer, found_each, get_map, have_sources, held_buffer, held_record, members_inside, newest_same, owns_in_order, owns_inside, snaps, snaps_text, snaps_versions, snapshot_is, within_old}
+use Rattle.ed_risen.proofs.Lists.{each_of, among_itself, among_last, among_more, among_push, any_same, each_push, fold_push, got, push_among}
+use Rattle.ed_risen.proofs.Turns.{rests}
 
 -- ---- small ones
 
@@ -58,61 +60,10 @@ snapshot_by b v text = record { buffer = b; version = v; text = text }
 abbrev pub rising_to : Stock → List (ℕ × SourceStep) → Rising
 rising_to x moves = record { stock = x; moves = moves }
 
-pub fold_push : {X Y : Type 0} (f : Y → X → Y) (z : Y) (xs : List X) (x : X) → fold f z (xs ++ x ∷ []) ≡ f (fold f z xs) x
-fold_push f z [] x = refl
-fold_push f z (y ∷ ys) x = fold_push f (f z y) ys x
-
-among_push : (xs : List ℕ) (b c : ℕ) → is_among c (xs ++ b ∷ []) ≡ true → (is_among c xs ≡ true) ⊎ (c ≡ b)
-among_push [] b c h = by (nat_eq c b) refl h
-  where
-    by : (t : Bool) → nat_eq c b ≡ t → is_among c (b ∷ []) ≡ true → (is_among c [] ≡ true) ⊎ (c ≡ b)
-    by true t h = inr (eqb-true c b t)
-    by false t h = absurd (let e : is_among c (b ∷ []) ≡ false = rw t refl in cc)
-among_push (x ∷ xs) b c h = by (nat_eq c x) refl h (among_push xs b c)
-  where
-    by : (t : Bool) → nat_eq c x ≡ t → is_among c (x ∷ (xs ++ b ∷ [])) ≡ true → (is_among c (xs ++ b ∷ []) ≡ true → (is_among c xs ≡ true) ⊎ (c ≡ b)) → (is_among c (x ∷ xs) ≡ true) ⊎ (c ≡ b)
-    by true t h more = inl (rw t refl)
-    by false t h more = elim (more (let e : is_among c (x ∷ (xs ++ b ∷ [])) ≡ is_among c (xs ++ b ∷ []) = rw t refl in sym e ∙ h)) [ inl i ↦ inl (rw t i) | inr e ↦ inr e ]
-
-push_among : (xs : List ℕ) (b c : ℕ) → is_among c xs ≡ true → is_among c (xs ++ b ∷ []) ≡ true
-push_among [] b c h = absurd (cc)
-push_among (x ∷ xs) b c h = by (nat_eq c x) refl h (push_among xs b c)
-  where
-    by : (t : Bool) → nat_eq c x ≡ t → is_among c (x ∷ xs) ≡ true → (is_among c xs ≡ true → is_among c (xs ++ b ∷ []) ≡ true) → is_among c (x ∷ (xs ++ b ∷ [])) ≡ true
-    by true t h more = rw t refl
-    by false t h more = rw t (more (let e : is_among c (x ∷ xs) ≡ is_among c xs = rw t refl in sym e ∙ h))
-
-among_last : (xs : List ℕ) (b : ℕ) → is_among b (xs ++ b ∷ []) ≡ true
-among_last [] b = rw (eq-eqb b b refl) refl
-among_last (x ∷ xs) b = by (nat_eq b x) refl (among_last xs b)
-  where
-    by : (t : Bool) → nat_eq b x ≡ t → is_among b (xs ++ b ∷ []) ≡ true → is_among b (x ∷ (xs ++ b ∷ [])) ≡ true
-    by true t rest = rw t refl
-    by false t rest = rw t rest
-
-pub among_itself : (b : ℕ) (xs : List ℕ) → is_among b (b ∷ xs) ≡ true
-among_itself b xs = rw (eq-eqb b b refl) refl
-
-pub among_more : (b c : ℕ) (xs : List ℕ) → is_among c xs ≡ true → is_among c (b ∷ xs) ≡ true
-among_more b c xs h = by (nat_eq c b) refl
-  where
-    by : (t : Bool) → nat_eq c b ≡ t → is_among c (b ∷ xs) ≡ true
-    by true t = rw t refl
-    by false t = rw t h
-
-pub got : {X : Type 0} (xs : List X) (i : ℕ) → i < length xs → (x : X) × (slice_get xs i ≡ Some x)
-got [] i h = absurd (omega arith)
-got (x ∷ xs) zero h = (x, refl)
-got (x ∷ xs) (suc i) h = got xs i (omega arith)
-
 pub base_sources : (vs : List Version) (i : ℕ) → sources_of (unwrap_or (slice_get (map base_record vs) i) (base [] 0)) ≡ []
 base_sources [] i = refl
 base_sources (v ∷ vs) zero = refl
 base_sources (v ∷ vs) (suc i) = base_sources vs i
-
-each_push : {X : Type 0} (P : X → Type 0) (xs : List X) (x : X) → Each P xs → P x → Each P (xs ++ x ∷ [])
-each_push P [] x h k = (k, tt)
-each_push P (y ∷ ys) x h k = (h.0, each_push P ys x h.1 k)
 
 apart_push : (ms : List Move) (m : Move) → AreApart ms → Each (λ n. n.buffer ≢ m.buffer) ms → AreApart (ms ++ m ∷ [])
 apart_push [] m h k = (tt, tt)
@@ -134,24 +85,20 @@ move_stays (n ∷ ns) m c h = by (nat_eq n.buffer c) refl h (move_stays ns m c)
     by true t h more = rw t refl
     by false t h more = rw t (more h)
 
-any_same : (f g : ℕ → Bool) (vs : List (ℕ × ℕ)) → Each (λ v. f v.0 ≡ g v.0) vs → list_any f (map (λ v. v.0) vs) ≡ list_any g (map (λ v. v.0) vs)
-any_same f g [] h = refl
-any_same f g (v ∷ vs) h = rw (h.0, any_same f g vs h.1) refl
-
 held_count : (hs : List Held) → count (stock hs) ≡ length hs
 held_count hs = length-map (map known hs) (λ k. k.buffer) ∙ length-map hs known
 
 module _ (w : Route) (order : List ℕ) (route : IsRoute w order) (passed done : List ℕ) (hs : List Held) (ms : List Move) (climbs : Climbs w passed done hs ms) where
   abbrev s : Stock
-  s = stock w.before
+  s = stock_of w.before
 
   abbrev r : Rising
-  r = rising_of (stock w.before) ms
+  r = rising_of (stock_of w.before) ms
 
   abbrev t : Stock
   t = r.stock
 
-  pub same_stock : stock hs ≡ stock w.before
+  pub same_stock : stock hs ≡ stock_of w.before
   same_stock = ap stock_of climbs.same
 
   pub true_hs : AreTrue (map known hs)

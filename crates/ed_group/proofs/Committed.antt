@@ -18,15 +18,17 @@ use Rattle.ed_stock.specs.Versions.{with_version}
 use Rattle.ed_group.specs.declared.held.Held.{Held}
 use Rattle.ed_group.specs.declared.moves.Move.{Move}
 use Rattle.ed_group.specs.declared.moves.Planned.{Planned}
-use Rattle.ed_group.specs.Group.{Plan, IsPlanned, known_after, known_grown, known_made, known_moved, known_turned, outcome, set_known, turn, turned_in, IsProjection, MayTurn}
+use Rattle.ed_group.specs.Group.{Plan, IsPlanned, known_after, known_grown, known_made, known_moved, known_turned, outcome, set_known, IsProjection, MayTurn}
+use Rattle.ed_risen.specs.Counting.{turn, turned_in}
 use Rattle.ed_group.specs.Kept.{IsKept}
-use Rattle.ed_group.specs.Laws.{CurrentVector, OneVector, RecordsStay}
+use Rattle.ed_risen.specs.Laws.{CurrentVector, OneVector, RecordsStay}
 use Rattle.ed_group.specs.Moves.{CanMake, IsPlannedAt, changes_of, record_of, with_move}
-use Rattle.ed_group.specs.Rising.{IsSettled}
+use Rattle.ed_risen.specs.Rising.{IsSettled}
 use Rattle.ed_group.specs.Seen.{Known, base_record, known, stock, stock_of}
-use Rattle.ed_group.proofs.Ended.{current_vector, records_stay}
-use Rattle.ed_group.proofs.Growth.{missing, set_here, set_other}
+use Rattle.ed_risen.proofs.Settled.{current_vector, records_stay}
+use Rattle.ed_risen.proofs.Growth.{missing, set_here, set_other}
 use Rattle.ed_group.proofs.Snapshots.{get_map}
+use Rattle.ed_risen.proofs.RisingLemmas.{stays}
 
 -- ---- what is known of one buffer, changed
 

@@ -22,19 +22,19 @@ use Rattle.ed_version.specs.declared.Version.{Version}
 use Rattle.ed_group.specs.declared.held.Held.{Held}
 use Rattle.ed_group.specs.declared.moves.Move.{Move}
 use Rattle.ed_group.specs.declared.moves.Planned.{Planned}
-use Rattle.ed_group.specs.Growing.{AreFounded, Grows}
+use Rattle.ed_risen.specs.Growing.{AreFounded, Grows}
 use Rattle.ed_group.specs.Moves.{CanMake, move_seen, rising_of, with_move}
-use Rattle.ed_group.specs.Rising.{IsSettled, HasStepped, IsRisen, Rises, plain}
+use Rattle.ed_risen.specs.Rising.{IsSettled, HasStepped, IsRisen, Rises, plain}
 use Rattle.ed_group.specs.Route.{AreTrue, Climbs, IsNewest, Route}
 use Rattle.ed_group.specs.Seen.{base_record, known, seen, stock}
 use Rattle.ed_group.proofs.Climb.{base_sources, rising_to, snapshot_by, stepped_by}
-use Rattle.ed_group.proofs.FoundedLemmas.{founded_of}
-use Rattle.ed_group.proofs.Growth.{grown_extends, grown_founded, grown_last, grown_length, grown_now, grown_record_now, grown_record_other, grown_text_now, set_here, version_grows}
+use Rattle.ed_risen.proofs.FoundedLemmas.{founded_of}
+use Rattle.ed_risen.proofs.Growth.{grown_extends, grown_founded, grown_last, grown_length, grown_now, grown_record_now, grown_record_other, grown_text_now, set_here, version_grows}
 use Rattle.ed_group.proofs.Advanced.{map_set}
-use Rattle.ed_group.proofs.Lists.{clash}
+use Rattle.ed_risen.proofs.Lists.{clash}
 use Rattle.ed_group.proofs.OwnPieces.{at_other, at_own, own_changes, own_step, own_text, own_trails}
-use Rattle.ed_group.proofs.RisingSteps.{get_last, now_is_there}
-use Rattle.ed_group.proofs.Showing.{base_text}
+use Rattle.ed_risen.proofs.RisingLemmas.{get_last, now_is_there}
+use Rattle.ed_risen.proofs.Texts.{base_text}
 use Rattle.ed_group.proofs.Snapshots.{get_map, held_buffer}
 
 -- ---- the bases that the changes reach
@@ -136,7 +136,7 @@ module _ (hs hs' : List Held) (true_ : AreTrue (map known hs)) (settled : IsSett
   u = with_move s the_move
 
   abbrev way : Route
-  way = record { before = hs; height = height; start = []; initial = b ∷ []; first = first }
+  way = record { before = map known hs; height = height; start = []; initial = b ∷ []; first = first }
 
   pub buffer_is : buffer s b ≡ seen (Held.Base x)
   buffer_is = held_buffer hs b (Held.Base x) held

@@ -20,13 +20,17 @@ use Rattle.ed_group.specs.Seen.{base_record, seen, stock}
 use Rattle.ed_group.specs.declared.fault.PlanFault.{PlanFault}
 use Rattle.ed_group.specs.declared.held.Held.{Held}
 use Rattle.ed_group.proofs.Edited.{bases_are, no_bases}
-use Rattle.ed_group.proofs.Lists.{or_else_none}
+use Rattle.ed_risen.proofs.Lists.{or_else_none}
 use Rattle.ed_group.proofs.OwnPieces.{own_changes}
 use Rattle.ed_group.proofs.Snapshots.{held_buffer}
 use Rattle.std.proofs.lemmas.List.{length-map}
 
-two : (o p : Option Refusal) → first_some (o ∷ p ∷ []) ≡ or_else o p
+pub two : (o p : Option Refusal) → first_some (o ∷ p ∷ []) ≡ or_else o p
 two o p = ap (or_else o) (or_else_none p)
+
+-- nothing to land, nothing denied
+pub denial_none : (hooks : HookTable) (s : Stock) (b : ℕ) → b < count s → is_carrier (record_now s b) ≡ false → (c : ChangeList) → c.changes ≡ [] → denial hooks s (pieces_of_changes b c.changes) ≡ None
+denial_none hooks s b there is_base c none = ap (denied_in hooks s (pieces_of_changes b c.changes)) (no_bases s b there is_base c none)
 
 module _ (hooks : HookTable) (hs : List Held) (b : ℕ) (there : b < count (stock hs)) (is_base : is_carrier (record_now (stock hs) b) ≡ false) (x : Base) (held : slice_get hs b ≡ Some (Held.Base x)) (c : ChangeList)
     (normal : AreNormalFrom 0 c.old_len c.changes) (from : c.old_len ≡ length (text_now (stock hs) b)) where
@@ -49,10 +53,6 @@ module _ (hooks : HookTable) (hs : List Held) (b : ℕ) (there : b < count (stoc
       ∙ ap (λ (y : Buffer). option_map (Refusal.ReadOnly b) (first_denied hooks y.regions (now s b) (base_changes s (pieces_of_changes b c.changes) b).changes)) buffer_is
       ∙ ap (λ n. option_map (Refusal.ReadOnly b) (first_denied hooks x.regions.regions n (base_changes s (pieces_of_changes b c.changes) b).changes)) now_is
       ∙ ap (λ (y : ChangeList). option_map (Refusal.ReadOnly b) (first_denied hooks x.regions.regions (chain.now x.chain.versions) y.changes)) (own_changes s b c from normal)
-
-  -- nothing to land, nothing denied
-  pub denial_none : c.changes ≡ [] → denial hooks s (pieces_of_changes b c.changes) ≡ None
-  denial_none none = ap (denied_in hooks s (pieces_of_changes b c.changes)) (no_bases s b there is_base c none)
 
   limits : Option Refusal
   limits = first_some (stock_limits (edit_landed s b c).stock)

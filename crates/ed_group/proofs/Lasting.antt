@@ -7,13 +7,13 @@ use Rattle.ed_stock.specs.Stock.{Stock, buffer, count, record_at, with_buffer}
 use Rattle.ed_group.specs.declared.counts.Counts.{Counts}
 use Rattle.ed_group.specs.declared.held.Held.{Held}
 use Rattle.ed_group.specs.Asking.{zoned_buffer}
-use Rattle.ed_group.specs.Founded.{Extends}
+use Rattle.ed_risen.specs.Founded.{Extends}
 use Rattle.ed_group.specs.Kept.{IsKept}
-use Rattle.ed_group.specs.Laws.{CurrentVector, RecordsStay}
+use Rattle.ed_risen.specs.Laws.{CurrentVector, RecordsStay}
 use Rattle.ed_group.specs.Seen.{Known, known, stock}
 use Rattle.ed_readonly.specs.LiveRegions.{LiveRegions}
-use Rattle.ed_group.proofs.Ended.{current_vector, record_there, records_stay}
-use Rattle.ed_group.proofs.Growth.{missing, push_old, set_here, set_other}
+use Rattle.ed_risen.proofs.Settled.{current_vector, record_there, records_stay}
+use Rattle.ed_risen.proofs.Growth.{missing, push_old, set_here, set_other}
 use Rattle.ed_group.proofs.NewBuffer.{map_push}
 
 -- a stock stays what it is

@@ -14,22 +14,23 @@ use Rattle.ed_version.specs.declared.Snapshot.{Snapshot}
 use Rattle.ed_group.specs.Counted.{AreCounts}
 use Rattle.ed_group.specs.Group.{known_grown, known_moved, set_known}
 use Rattle.ed_group.specs.Kept.{IsKept}
-use Rattle.ed_group.specs.Laws.{OneVector}
+use Rattle.ed_risen.specs.Laws.{OneVector}
 use Rattle.ed_group.specs.Moves.{AreApart, changes_of, move_of, rising_of, snapshot_of, with_move}
-use Rattle.ed_group.specs.Rising.{HasStepped, IsSettled, Rises, plain}
+use Rattle.ed_risen.specs.Rising.{HasStepped, IsSettled, Rises, plain}
 use Rattle.ed_group.specs.Route.{IsNewest, newest}
 use Rattle.ed_group.specs.Seen.{Known, known, stock, stock_of}
 use Rattle.ed_group.specs.declared.counts.Counts.{Counts}
 use Rattle.ed_group.specs.declared.held.Held.{Held}
 use Rattle.ed_group.specs.declared.moves.Move.{Move}
 use Rattle.ed_group.proofs.Committed.{stock_folded}
-use Rattle.ed_group.proofs.Ended.{one_vector, settles}
-use Rattle.ed_group.proofs.Growth.{set_here, set_other}
-use Rattle.ed_group.proofs.Lists.{clash}
+use Rattle.ed_risen.proofs.Settled.{one_vector, settles}
+use Rattle.ed_risen.proofs.Growth.{set_here, set_other}
+use Rattle.ed_risen.proofs.Lists.{clash}
 use Rattle.ed_group.proofs.Moved.{step_of_move}
-use Rattle.ed_group.proofs.Showing.{same_text}
+use Rattle.ed_risen.proofs.Texts.{same_text}
 use Rattle.ed_group.proofs.Snapshots.{found_buffer, found_each}
 use Rattle.ed_base.specs.ChangeList.{step}
+use Rattle.ed_risen.proofs.Turns.{turns}
 
 -- ---- what is known of one buffer then
 

@@ -8,7 +8,8 @@ use Rattle.ed_group.specs.declared.moves.Move.{Move}
 use Rattle.ed_group.specs.Climbing.{CanRise, HasTurned, goes}
 use Rattle.ed_group.specs.Moves.{move_seen}
 use Rattle.ed_group.specs.Route.{Climbs, HasClimbed, IsRoute, Route}
-use Rattle.ed_group.proofs.Climb.{got, reached, there_held}
+use Rattle.ed_risen.proofs.Lists.{got}
+use Rattle.ed_group.proofs.Climb.{reached, there_held}
 use Rattle.ed_group.proofs.Turned.{can_go, turn_failed, turned_on}
 
 split_by : (xs : List ℕ) (i b : ℕ) → i < length xs → b ≡ slice_index_or xs i b → (xs ≡ take i xs ++ b ∷ drop (suc i) xs) × (take (suc i) xs ≡ take i xs ++ b ∷ [])

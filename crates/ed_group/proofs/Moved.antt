@@ -5,12 +5,17 @@ use Rattle.std.specs.List.{list_any}
 use Rattle.ed_base.specs.Numbers.{places}
 use Rattle.ed_base.specs.ChangeList.{ChangeList, step, new_len, IsNormal}
 use Rattle.ed_base.proofs.NormalSteps.{normal_new_len}
-use Rattle.ed_stock.specs.Versions.{step_in}
+use Rattle.ed_stock.specs.Versions.{step_in, with_version}
+use Rattle.ed_stock.specs.Stock.{Stock}
 use Rattle.ed_group.specs.declared.moves.Move.{Move}
-use Rattle.ed_group.specs.Moves.{move_of, move_seen, changes_of}
-use Rattle.ed_group.specs.Rising.{plain}
+use Rattle.ed_group.specs.Moves.{move_of, move_seen, changes_of, with_move}
+use Rattle.ed_risen.specs.Rising.{plain}
 use Rattle.ed_members.specs.declared.SourceStep.{SourceStep as SourceSteps}
 use Rattle.ed_members.specs.Steps.{step_seen, steps_seen}
+use Rattle.ed_group.specs.Route.{IsNewest}
+use Rattle.ed_group.specs.Counted.{told}
+use Rattle.std.specs.List.{AllByRecursion as Each}
+use Rattle.ed_stock.specs.Stock.{now}
 
 -- the step of a buffer is that of its move
 pub step_of_move : (ms : List Move) (b : ℕ) → step_in (map move_seen ms) b ≡ option_map (λ m. plain (step (changes_of m.planned))) (move_of ms b)
@@ -45,3 +50,12 @@ seen_steps ss = λ i b. by ss b i
     by : (xs : List SourceSteps) (b : ℕ) → steps_seen xs b ≡ step_in (map (λ x. (x.source, step_seen x)) xs) b
     by [] b = refl
     by (x ∷ xs) b = ap (λ o. if nat_eq x.source b then Some (step_seen x) else o) (by xs b)
+
+pub most_moved : (s : Stock) (m : Move) → (with_move s m).most_buffers ≡ s.most_buffers
+unfolding with_version
+most_moved s m = refl
+
+-- versions as they are told are those that were made
+pub told_made : (t : Stock) (ms : List Move) → Each (IsNewest t) ms → map told ms ≡ map (λ m. (m.0, now t m.0)) (map move_seen ms)
+told_made t [] h = refl
+told_made t (m ∷ ms) h = ap (λ v. (m.buffer, v) ∷ map told ms) (ap (λ y. y.version) h.0) ∙ ap (λ vs. (m.buffer, now t m.buffer) ∷ vs) (told_made t ms h.1)

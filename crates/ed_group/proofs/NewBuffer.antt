@@ -14,18 +14,18 @@ use Rattle.ed_stock.specs.Limits.{inserted, versions, placements, stock_limits}
 use Rattle.ed_stock.specs.Making.{with_new}
 use Rattle.ed_stock.specs.Stock.{Stock, Buffer, buffer, now, record_at, record_now, sources_now, text_now, text_at, count}
 use Rattle.ed_group.specs.declared.counts.Counts.{Counts}
-use Rattle.ed_group.specs.Founded.{Founded}
-use Rattle.ed_group.specs.Growing.{Grows, AreFounded}
+use Rattle.ed_risen.specs.Founded.{Founded}
+use Rattle.ed_risen.specs.Growing.{Grows, AreFounded}
 use Rattle.ed_group.specs.Kept.{IsKept}
-use Rattle.ed_group.specs.Laws.{HasOneVersionEach, OneVector}
-use Rattle.ed_group.specs.Rising.{EndsIn, Inside, IsNow, IsSettled}
+use Rattle.ed_risen.specs.Laws.{HasOneVersionEach, OneVector}
+use Rattle.ed_risen.specs.Rising.{EndsIn, Inside, IsNow, IsSettled}
 use Rattle.ed_group.specs.Seen.{Known, stock_of}
-use Rattle.ed_group.proofs.Counting.{new_buffer}
-use Rattle.ed_group.proofs.Ended.{current_one, record_there}
-use Rattle.ed_group.proofs.FoundedLemmas.{each_weaker, each_version, founded_record, same_vector}
-use Rattle.ed_group.proofs.Growth.{missing, push_here, push_old, grown_extends, grown_founded, grown_length, grown_now_other, grown_other, grown_record_now, grown_record_other, grown_text_now}
-use Rattle.ed_group.proofs.Lists.{each_both, get_past, places_push}
-use Rattle.ed_group.proofs.Showing.{same_text}
+use Rattle.ed_risen.proofs.Counting.{new_buffer}
+use Rattle.ed_risen.proofs.Settled.{current_one, record_there}
+use Rattle.ed_risen.proofs.FoundedLemmas.{each_weaker, each_version, founded_record, same_vector}
+use Rattle.ed_risen.proofs.Growth.{missing, push_here, push_old, grown_extends, grown_founded, grown_length, grown_now_other, grown_other, grown_record_now, grown_record_other, grown_text_now}
+use Rattle.ed_risen.proofs.Lists.{each_both, get_past, places_push}
+use Rattle.ed_risen.proofs.Texts.{same_text}
 
 -- ---- lists
 

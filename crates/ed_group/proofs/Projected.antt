@@ -28,29 +28,30 @@ use Rattle.ed_group.specs.Answers.{LiesIn, Refuses, len_now, projection_fault, w
 use Rattle.ed_group.specs.declared.counts.Counts.{Counts}
 use Rattle.ed_group.specs.declared.fault.PlanFault.{PlanFault}
 use Rattle.ed_group.specs.declared.held.Held.{Held}
-use Rattle.ed_group.specs.Founded.{Founded}
-use Rattle.ed_group.specs.Growing.{Grows}
+use Rattle.ed_risen.specs.Founded.{Founded}
+use Rattle.ed_risen.specs.Growing.{Grows}
 use Rattle.ed_group.specs.Kept.{IsKept}
 use Rattle.ed_group.specs.Limited.{new_limit}
 use Rattle.ed_group.specs.Moves.{snapshot_now}
 use Rattle.ed_group.specs.Placed.{too_deep}
-use Rattle.ed_group.specs.Rising.{EndsIn, IsNow, IsSettled}
+use Rattle.ed_risen.specs.Rising.{EndsIn, IsNow, IsSettled}
 use Rattle.ed_group.specs.Route.{newest}
 use Rattle.ed_group.specs.Seen.{Known, known, stock, stock_of}
 use Rattle.ed_group.proofs.Based.{count_len, graph_len, not_passed, new_first, new_record}
-use Rattle.ed_group.proofs.Counting.{inserted_new_projection, new_buffer, placements_new, versions_new}
-use Rattle.ed_group.proofs.Ended.{all_of}
-use Rattle.ed_group.proofs.FoundedLemmas.{each_weaker, founded_in, founded_of}
-use Rattle.ed_group.proofs.Growth.{grown_extends, grown_now_other, missing}
-use Rattle.ed_group.proofs.Lengths.{Fits, length_text_over}
-use Rattle.ed_group.proofs.Listed.{Agree, IsListed, OfSource, all_listed, each_source, named_among, same_mode_fault}
-use Rattle.ed_group.proofs.Lists.{each_both, get_past, index_map, index_past, or_else_assoc, or_else_none}
+use Rattle.ed_risen.proofs.Counting.{inserted_new_projection, new_buffer, placements_new, versions_new}
+use Rattle.ed_risen.proofs.Settled.{all_of}
+use Rattle.ed_risen.proofs.FoundedLemmas.{each_weaker, founded_in, founded_of}
+use Rattle.ed_risen.proofs.Growth.{grown_extends, grown_now_other, missing}
+use Rattle.ed_risen.proofs.Lengths.{Fits, length_text_over}
+use Rattle.ed_risen.proofs.Sources.{Agree, IsListed, OfSource, all_listed, each_source, named_among, same_mode_fault}
+use Rattle.ed_risen.proofs.Lists.{each_both, get_past, index_map, index_past, or_else_assoc, or_else_none, each_of}
 use Rattle.ed_group.proofs.NewBuffer.{map_push, named_there, new_kept, new_grows, new_stock, text_now_stays}
-use Rattle.ed_group.proofs.NewLimits.{each_none, limits_new}
-use Rattle.ed_group.proofs.RisingSteps.{get_last}
+use Rattle.ed_risen.proofs.OneLimit.{each_none}
+use Rattle.ed_group.proofs.NewLimits.{limits_new}
+use Rattle.ed_risen.proofs.RisingLemmas.{get_last}
 use Rattle.ed_group.proofs.Routes.{greatest_above}
-use Rattle.ed_group.proofs.Showing.{named_text, projection_text}
-use Rattle.ed_group.proofs.Snapshots.{each_of, newest_same, snap_there, snaps, snaps_text, snaps_versions, snapshot_is}
+use Rattle.ed_risen.proofs.Texts.{named_text, projection_text}
+use Rattle.ed_group.proofs.Snapshots.{newest_same, snap_there, snaps, snaps_text, snaps_versions, snapshot_is}
 
 -- ---- refusals that come one after the other
 

@@ -18,80 +18,35 @@ use Rattle.ed_stock.specs.Limits.{inserted, over, placements, some_over, stock_l
 use Rattle.ed_stock.specs.Stock.{Stock, buffer, count, graph_order, now, record_at, record_now, text_at, text_now}
 use Rattle.ed_stock.specs.Versions.{Rising, at_now, next_record, none_given, risen_at, step_in}
 use Rattle.ed_group.specs.declared.held.Held.{Held}
-use Rattle.ed_group.specs.Founded.{Extends, Founded}
-use Rattle.ed_group.specs.Growing.{AreFounded, Grows}
+use Rattle.ed_risen.specs.Founded.{Extends, Founded}
+use Rattle.ed_risen.specs.Growing.{AreFounded, Grows}
 use Rattle.ed_group.specs.Moves.{rising_of}
-use Rattle.ed_group.specs.Rising.{EndsIn}
+use Rattle.ed_risen.specs.Rising.{EndsIn}
 use Rattle.ed_group.specs.Route.{IsRoute, IsTooLong, Route}
-use Rattle.ed_group.specs.Seen.{known, stock}
-use Rattle.ed_group.proofs.Climb.{among_itself, buffer_is, closed, inside_by, low, out_of, reached, record_is, still_text, there_sources, true_hs}
-use Rattle.ed_group.proofs.FoundedLemmas.{each_version, each_weaker, founded_in, founded_more}
-use Rattle.ed_group.proofs.Growth.{grown_extends, grown_founded, grown_last, grown_length, grown_now}
-use Rattle.ed_group.proofs.Lengths.{Fits, length_text_over}
-use Rattle.ed_group.proofs.Lists.{among_front, clash}
-use Rattle.ed_group.proofs.RisingSteps.{at_now_each, levels, same_record, some_records}
-use Rattle.ed_group.proofs.Showing.{named_text, projection_text, same_text}
-use Rattle.ed_group.proofs.Snapshots.{each_of, get_map, members_inside}
-use Rattle.ed_group.proofs.TooLong.{Turns, text_stays, turns}
+use Rattle.ed_group.specs.Seen.{known, stock, stock_of, Known}
+use Rattle.ed_risen.proofs.Lists.{among_itself, among_front, clash, among_behind, among_split, each_among, each_behind, fold_append, each_of}
+use Rattle.ed_group.proofs.Climb.{buffer_is, closed, inside_by, low, out_of, reached, record_is, still_text, there_sources, true_hs}
+use Rattle.ed_risen.proofs.FoundedLemmas.{each_version, each_weaker, founded_in, founded_more}
+use Rattle.ed_risen.proofs.Growth.{grown_extends, grown_founded, grown_last, grown_length, grown_now}
+use Rattle.ed_risen.proofs.Lengths.{Fits, length_text_over}
+use Rattle.ed_risen.proofs.RisingLemmas.{at_now_each, levels, same_record, some_records}
+use Rattle.ed_risen.proofs.Texts.{named_text, projection_text, same_text}
+use Rattle.ed_group.proofs.Snapshots.{get_map, members_inside}
+use Rattle.ed_risen.proofs.Turns.{Turns, text_stays, turns}
+use Rattle.ed_risen.proofs.OneLimit.{first_long}
 
 -- ---- the first of a list that passes the limit
 
-found_long : (f : ℕ → ℕ) (passed rest : List ℕ) (b len : ℕ) → Each (λ c. f c ≤ 2 ^ 22) passed → f b ≡ len → 2 ^ 22 < len → find (nat_lt (2 ^ 22)) (map f (passed ++ b ∷ rest)) ≡ Some len
-found_long f [] rest b len short is long = rw (is, lt-ltb (2 ^ 22) len long) refl
-found_long f (x ∷ xs) rest b len short is long = rw (le-ltb (2 ^ 22) (f x) short.0) (found_long f xs rest b len short.1 is long)
-
-pub first_long : (s : Stock) (passed rest : List ℕ) (b len : ℕ) → over Which.Buffers s.most_buffers (count s) ≡ None → graph_order s ≡ passed ++ b ∷ rest → Each (λ c. length (text_now s c) ≤ 2 ^ 22) passed → length (text_now s b) ≡ len → 2 ^ 22 < len
-    → first_some (stock_limits s) ≡ Some (Refusal.Limit Which.Units len)
-first_long s passed rest b len few order short is long =
-    let found : some_over Which.Units (2 ^ 22) (map (λ c. length (text_now s c)) (graph_order s)) ≡ Some (Refusal.Limit Which.Units len) =
-    ap (λ xs. some_over Which.Units (2 ^ 22) (map (λ c. length (text_now s c)) xs)) order ∙ ap (option_map (Refusal.Limit Which.Units)) (found_long (λ c. length (text_now s c)) passed rest b len short is long) in
-    by (over Which.Buffers s.most_buffers (count s)) (some_over Which.Units (2 ^ 22) (map (λ c. length (text_now s c)) (graph_order s))) (over Which.Inserted (2 ^ 27) (inserted s) ∷ over Which.Versions s.most_versions (versions s) ∷ some_over Which.Members 1024 (map (λ b'. length (members_of (record_now s b'))) (graph_order s)) ∷ over Which.Placements (2 ^ 26) (placements s) ∷ []) few found
-  where
-    by : (x y : Option Refusal) (zs : List (Option Refusal)) → x ≡ None → y ≡ Some (Refusal.Limit Which.Units len) → first_some (x ∷ y ∷ zs) ≡ Some (Refusal.Limit Which.Units len)
-    by x y zs e f = rw (e, f) refl
-
 -- ---- lists
-
-pub each_among : (P : ℕ → Type 0) (xs : List ℕ) → ((c : ℕ) → is_among c xs ≡ true → P c) → Each P xs
-each_among P [] h = tt
-each_among P (x ∷ xs) h = (h x (among_itself x xs), each_among P xs (λ c i. h c (more c i (nat_eq c x) refl)))
-  where
-    more : (c : ℕ) → is_among c xs ≡ true → (t : Bool) → nat_eq c x ≡ t → is_among c (x ∷ xs) ≡ true
-    more c i true t = rw t refl
-    more c i false t = rw t i
-
-pub among_split : (c : ℕ) (xs : List ℕ) → is_among c xs ≡ true → (ys : List ℕ) × (zs : List ℕ) × (xs ≡ ys ++ c ∷ zs)
-among_split c [] h = absurd (cc)
-among_split c (x ∷ xs) h = by (nat_eq c x) refl h (among_split c xs)
-  where
-    by : (t : Bool) → nat_eq c x ≡ t → is_among c (x ∷ xs) ≡ true → (is_among c xs ≡ true → (ys : List ℕ) × (zs : List ℕ) × (xs ≡ ys ++ c ∷ zs)) → (ys : List ℕ) × (zs : List ℕ) × (x ∷ xs ≡ ys ++ c ∷ zs)
-    by true t h more = ([], xs, ap (λ y. y ∷ xs) (sym (eqb-true c x t)))
-    by false t h more = (let r : (ys : List ℕ) × (zs : List ℕ) × (xs ≡ ys ++ c ∷ zs) = more (let e : is_among c (x ∷ xs) ≡ is_among c xs = rw t refl in sym e ∙ h) in (x ∷ r.0, r.1, ap (λ ys. x ∷ ys) r.2))
-
-pub among_behind : (c : ℕ) (xs ys : List ℕ) → is_among c ys ≡ true → is_among c (xs ++ ys) ≡ true
-among_behind c [] ys h = h
-among_behind c (x ∷ xs) ys h = by (nat_eq c x) refl (among_behind c xs ys h)
-  where
-    by : (t : Bool) → nat_eq c x ≡ t → is_among c (xs ++ ys) ≡ true → is_among c (x ∷ (xs ++ ys)) ≡ true
-    by true t rest = rw t refl
-    by false t rest = rw t rest
-
-pub fold_append : {X Y : Type 0} (f : Y → X → Y) (z : Y) (xs ys : List X) → fold f z (xs ++ ys) ≡ fold f (fold f z xs) ys
-fold_append f z [] ys = refl
-fold_append f z (x ∷ xs) ys = fold_append f (f z x) xs ys
-
-each_behind : (P : ℕ → Type 0) (xs ys : List ℕ) → Each P (xs ++ ys) → Each P ys
-each_behind P [] ys h = h
-each_behind P (x ∷ xs) ys h = each_behind P xs ys h.1
 
 -- ---- on the way
 
-module _ (w : Route) (order : List ℕ) (route : IsRoute w order) (all : Each (λ b. b < count (stock w.before)) order) (len : ℕ) (long : IsTooLong w order len) where
+module _ (w : Route) (order : List ℕ) (route : IsRoute w order) (all : Each (λ b. b < count (stock_of w.before)) order) (len : ℕ) (long : IsTooLong w order len) where
   abbrev s : Stock
-  s = stock w.before
+  s = stock_of w.before
 
   abbrev r : Rising
-  r = rising_of (stock w.before) long.ms
+  r = rising_of (stock_of w.before) long.ms
 
   abbrev t : Stock
   t = r.stock

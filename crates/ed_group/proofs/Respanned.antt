@@ -22,17 +22,17 @@ use Rattle.ed_group.specs.declared.fault.PlanFault.{PlanFault}
 use Rattle.ed_group.specs.declared.held.Held.{Held}
 use Rattle.ed_group.specs.Kept.{IsKept}
 use Rattle.ed_group.specs.Placed.{too_deep}
-use Rattle.ed_group.specs.Rising.{EndsIn, Inside}
+use Rattle.ed_risen.specs.Rising.{EndsIn, Inside}
 use Rattle.ed_group.specs.Seen.{known, stock}
 use Rattle.ed_group.specs.Spanning.{standing_fault}
 use Rattle.ed_group.proofs.Based.{count_len, graph_len}
-use Rattle.ed_group.proofs.Ended.{all_of}
-use Rattle.ed_group.proofs.FoundedLemmas.{each_version, each_weaker}
-use Rattle.ed_group.proofs.Listed.{Agree, IsListed, OfSource, all_listed, same_mode_fault}
-use Rattle.ed_group.proofs.Lists.{each_append, or_else_assoc, or_else_none}
+use Rattle.ed_risen.proofs.Settled.{all_of}
+use Rattle.ed_risen.proofs.FoundedLemmas.{each_version, each_weaker}
+use Rattle.ed_risen.proofs.Sources.{Agree, IsListed, OfSource, all_listed, same_mode_fault}
+use Rattle.ed_risen.proofs.Lists.{each_append, or_else_assoc, or_else_none, each_of}
 use Rattle.ed_group.proofs.Projected.{agrees, refused_none, refuses_first}
 use Rattle.ed_group.proofs.Routes.{sources_same}
-use Rattle.ed_group.proofs.Snapshots.{each_of, snaps}
+use Rattle.ed_group.proofs.Snapshots.{snaps}
 
 -- ---- lists
 

@@ -11,13 +11,12 @@ use Rattle.ed_layers.specs.Records.{base, sources_of}
 use Rattle.ed_graph.specs.Standing.{IsLevelled, height_in, order_in, sources_in}
 use Rattle.ed_graph.proofs.Fuel.{within_rounds}
 use Rattle.ed_stock.specs.Stock.{Stock, count, graph_order, record_now, sources_now}
-use Rattle.ed_group.specs.Rising.{IsSettled}
+use Rattle.ed_risen.specs.Rising.{IsSettled}
 use Rattle.ed_group.specs.Route.{AreTrue, IsReached, IsRoute, Route}
-use Rattle.ed_group.specs.Seen.{known, stock}
-use Rattle.ed_group.proofs.Growth.{missing}
-use Rattle.ed_group.proofs.InOrder.{Comes, order_all, order_comes}
-use Rattle.ed_group.proofs.Lists.{get_past, index_map, index_past}
-use Rattle.ed_group.proofs.Snapshots.{each_of}
+use Rattle.ed_group.specs.Seen.{known, stock, stock_of, Known}
+use Rattle.ed_risen.proofs.Growth.{missing}
+use Rattle.ed_risen.proofs.Order.{Comes, order_all, order_comes}
+use Rattle.ed_risen.proofs.Lists.{get_past, index_map, index_past, each_of}
 
 -- ---- the sources that the graph has
 
@@ -53,10 +52,10 @@ greatest_above f p (suc k) a b from to = elim (cases_eq b p) [
   | inr ne ↦ greatest_above f (p + 1) k (max a (f p)) b (omega arith) (omega arith)
 ]
 
-module _ (w : Route) (g : List (List ℕ)) (len : length g ≡ count (stock w.before)) (sources_are : (c : ℕ) → is_among c w.start ≡ false → sources_in g c ≡ sources_now (stock w.before) c)
-    (levelled : IsLevelled g) (heights : w.height ≡ height_in g) (true_ : AreTrue (map known w.before)) (settled : IsSettled (stock w.before)) where
+module _ (w : Route) (g : List (List ℕ)) (len : length g ≡ count (stock_of w.before)) (sources_are : (c : ℕ) → is_among c w.start ≡ false → sources_in g c ≡ sources_now (stock_of w.before) c)
+    (levelled : IsLevelled g) (heights : w.height ≡ height_in g) (true_ : AreTrue (w.before)) (settled : IsSettled (stock_of w.before)) where
   abbrev s : Stock
-  s = stock w.before
+  s = stock_of w.before
 
   shallow_at : (b : ℕ) → b < length g → height_in g b ≤ 8
   unfolding layers.greatest_height

@@ -22,15 +22,15 @@ use Rattle.ed_version.specs.declared.Snapshot.{Snapshot}
 use Rattle.ed_group.specs.declared.held.Held.{Held}
 use Rattle.ed_group.specs.declared.moves.Move.{Move}
 use Rattle.ed_group.specs.Moves.{move_of, newest_of, snapshot_now}
-use Rattle.ed_group.specs.Rising.{EndsIn, IsSettled, HasStepped}
+use Rattle.ed_risen.specs.Rising.{EndsIn, IsSettled, HasStepped}
 use Rattle.ed_group.specs.Route.{AreTrue, newest}
 use Rattle.ed_group.specs.Seen.{known, seen, stock, text_of}
-use Rattle.ed_group.proofs.Ended.{all_of}
-use Rattle.ed_group.proofs.FoundedLemmas.{each_weaker, each_version}
-use Rattle.ed_group.proofs.Lengths.{no_trail}
-use Rattle.ed_group.proofs.Growth.{missing}
-use Rattle.ed_group.proofs.RisingSteps.{get_last}
-use Rattle.ed_group.proofs.Showing.{named_text}
+use Rattle.ed_risen.proofs.Settled.{all_of}
+use Rattle.ed_risen.proofs.FoundedLemmas.{each_weaker, each_version}
+use Rattle.ed_risen.proofs.Lengths.{no_trail}
+use Rattle.ed_risen.proofs.Growth.{missing}
+use Rattle.ed_risen.proofs.RisingLemmas.{get_last}
+use Rattle.ed_risen.proofs.Texts.{named_text}
 
 -- ---- buffers that are held
 
@@ -194,7 +194,3 @@ module _ (s t : Stock) (steps : ℕ → Option SourceStep) (stepped : (b : ℕ) 
   pub members_inside : (carrier : ℕ) (all : List Member) (i : ℕ) (ms : List Member) → Each (EndsIn s sources) ms → Each (EndsInNew steps) (map (member_after carrier steps all) (enumerate_from i ms)) → Each (EndsIn t (at_now t sources)) (map (member_after carrier steps all) (enumerate_from i ms))
   members_inside carrier all i [] h new = tt
   members_inside carrier all i (m ∷ ms) h new = (moved_inside carrier all i m h.0 new.0, members_inside carrier all (i + 1) ms h.1 new.1)
-
-pub each_of : {X : Type 0} (P : X → Type 0) (xs : List X) → All P xs → Each P xs
-each_of P [] h = tt
-each_of P (x ∷ xs) h = (h 0 x (omega arith), each_of P xs (λ k d below. h (suc k) d (omega arith)))

@@ -30,71 +30,39 @@ use Rattle.ed_group.specs.Answers.{LiesIn, members_now}
 use Rattle.ed_group.specs.declared.held.Held.{Held}
 use Rattle.ed_group.specs.declared.moves.Move.{Move}
 use Rattle.ed_group.specs.declared.moves.Planned.{Planned}
-use Rattle.ed_group.specs.Founded.{Founded, Extends}
-use Rattle.ed_group.specs.Group.{turned_in}
-use Rattle.ed_group.specs.Growing.{AreFounded, Grows}
+use Rattle.ed_risen.specs.Founded.{Founded, Extends}
+use Rattle.ed_risen.specs.Counting.{turned_in}
+use Rattle.ed_risen.specs.Growing.{AreFounded, Grows}
 use Rattle.ed_group.specs.Moves.{CanMake, move_of, move_seen, rising_of, with_move}
-use Rattle.ed_group.specs.Rising.{EndsIn, HasStepped, Inside, IsNow, IsRisen, IsSettled, Rises, plain}
+use Rattle.ed_risen.specs.Rising.{EndsIn, HasStepped, Inside, IsNow, IsRisen, IsSettled, Rises, plain}
 use Rattle.ed_group.specs.Route.{AreTrue, Climbs, IsNewest}
 use Rattle.ed_group.specs.Seen.{known, seen, stock}
+use Rattle.ed_risen.specs.Start.{IsStart}
+use Rattle.ed_group.specs.Begins.{turned_rising}
+use Rattle.ed_risen.proofs.Turning.{turned_limits}
+use Rattle.ed_risen.proofs.Starts.{count_left, only_too_long, risen_is}
 use Rattle.ed_group.specs.Spanning.{below, spans_first, spans_route}
 use Rattle.ed_group.proofs.Advanced.{map_set, same_known}
-use Rattle.ed_group.proofs.AsMany.{most_all}
-use Rattle.ed_group.proofs.Climb.{among_itself, among_more, rising_to, snapshot_by, stepped_by}
-use Rattle.ed_group.proofs.FoundedLemmas.{each_version, each_weaker, founded_in, founded_of}
-use Rattle.ed_group.proofs.Growth.{missing, grown_extends, grown_founded, grown_last, grown_length, grown_now, grown_now_other, grown_record_now, grown_record_other, grown_text_now, same_growth, set_grows, set_here, set_other, version_grows}
-use Rattle.ed_group.proofs.InOrder.{Comes, order_all, order_comes}
-use Rattle.ed_group.proofs.Lengths.{Fits, length_slots, length_text_over, plain_trails}
-use Rattle.ed_group.proofs.Listed.{IsListed, all_listed, named_among}
-use Rattle.ed_group.proofs.Lists.{among_front, clash, each_both}
-use Rattle.ed_group.proofs.NewLimits.{each_none}
-use Rattle.ed_group.proofs.Refused.{among_behind, among_split, each_among, first_long, fold_append}
-use Rattle.ed_group.proofs.RisingSteps.{get_last, now_is_there}
+use Rattle.ed_risen.proofs.MemberCounts.{most_all}
+use Rattle.ed_risen.proofs.Lists.{among_itself, among_more, among_front, clash, each_both, among_behind, among_split, each_among, fold_append, passes, passing, each_of}
+use Rattle.ed_group.proofs.Climb.{rising_to, snapshot_by, stepped_by}
+use Rattle.ed_risen.proofs.FoundedLemmas.{each_version, each_weaker, founded_in, founded_of}
+use Rattle.ed_risen.proofs.Growth.{missing, grown_extends, grown_founded, grown_last, grown_length, grown_now, grown_now_other, grown_record_now, grown_record_other, grown_text_now, same_growth, set_grows, set_here, set_other, version_grows}
+use Rattle.ed_risen.proofs.Order.{Comes, order_all, order_comes}
+use Rattle.ed_risen.proofs.Lengths.{Fits, length_slots, length_text_over, plain_trails}
+use Rattle.ed_risen.proofs.Sources.{IsListed, all_listed, named_among}
+use Rattle.ed_risen.proofs.OneLimit.{each_none, first_long}
+use Rattle.ed_risen.proofs.RisingLemmas.{get_last, now_is_there}
 use Rattle.ed_group.proofs.Routes.{greatest_above}
-use Rattle.ed_group.proofs.Showing.{named_text, projection_text, same_text}
-use Rattle.ed_group.proofs.TooLong.{NamesStay, names_stay, text_stays}
-use Rattle.ed_group.proofs.Snapshots.{each_of, get_map, held_buffer, held_record, snap_there, snaps, snaps_text}
+use Rattle.ed_risen.proofs.Texts.{named_text, projection_text, same_text}
+use Rattle.ed_risen.proofs.Turns.{NamesStay, names_stay, text_stays}
+use Rattle.ed_group.proofs.Snapshots.{get_map, held_buffer, held_record, snap_there, snaps, snaps_text}
+use Rattle.ed_group.proofs.Based.{few}
 
 -- ---- lists
 
--- those of a range that pass a test
-passing : (test : ℕ → Bool) (p k c : ℕ) → is_among c (filter test (range_with_len p k)) ≡ true → (p ≤ c) × (c < p + k) × (test c ≡ true)
-passing test p zero c h = absurd (cc)
-passing test p (suc k) c h = by (test p) refl (passing test (p + 1) k c)
-  where
-    Found : ℕ → ℕ → Type 0
-    Found from len = (from ≤ c) × (c < from + len) × (test c ≡ true)
-
-    later : (p + 1 ≤ c) × (c < p + 1 + k) × (test c ≡ true) → (p ≤ c) × (c < p + suc k) × (test c ≡ true)
-    later r = ((let a : p + 1 ≤ c = r.0 in omega arith), (let a : c < p + 1 + k = r.1 in omega arith), r.2)
-
-    by : (t : Bool) → test p ≡ t → (is_among c (filter test (range_with_len (p + 1) k)) ≡ true → (p + 1 ≤ c) × (c < p + 1 + k) × (test c ≡ true)) → (p ≤ c) × (c < p + suc k) × (test c ≡ true)
-    by false t more = later (more (let e : is_among c (filter test (range_with_len p (suc k))) ≡ is_among c (filter test (range_with_len (p + 1) k)) = rw t refl in sym e ∙ h))
-    by true t more = elim (cases_eq c p) [
-      | inl e ↦ (omega arith, omega arith, ap test e ∙ t)
-      | inr ne ↦ later (more (let f : is_among c (filter test (range_with_len p (suc k))) ≡ is_among c (filter test (range_with_len (p + 1) k)) = rw (t, ne_eqb c p ne) refl in sym f ∙ h))
-    ]
-
-passes : (test : ℕ → Bool) (p k c : ℕ) → p ≤ c → c < p + k → test c ≡ true → is_among c (filter test (range_with_len p k)) ≡ true
-passes test p zero c from to t = absurd (omega arith)
-passes test p (suc k) c from to t = elim (cases_eq c p) [
-  | inl e ↦ rw (ap test (sym e) ∙ t, eq-eqb c p e) refl
-  | inr ne ↦ by (test p) refl (passes test (p + 1) k c (omega arith) (omega arith) t)
-]
-  where
-    by : (q : Bool) → test p ≡ q → is_among c (filter test (range_with_len (p + 1) k)) ≡ true → is_among c (filter test (range_with_len p (suc k))) ≡ true
-    by true q rest = rw q (among_more p c (filter test (range_with_len (p + 1) k)) rest)
-    by false q rest = rw q rest
-
 step_in_none : step_in [] ≡ no_steps
 step_in_none = λ i b. None
-
--- a turn more of a buffer leaves all records
-pub turned_records : (t : Stock) (b : ℕ) → b < count t → (c : ℕ) → (buffer (turned_in t (Some b)) c).records ≡ (buffer t c).records
-turned_records t b there c = elim (cases_eq c b) [
-  | inl e ↦ subst (λ d. (buffer (turned_in t (Some b)) d).records ≡ (buffer t d).records) (sym e) (ap (λ o. (unwrap_or o missing).records) (set_here t.buffers b _ there))
-  | inr ne ↦ ap (λ o. (unwrap_or o missing).records) (set_other t.buffers b c _ ne)
-]
 
 -- ---- the way begins
 
@@ -489,168 +457,47 @@ module _ (hs : List Held) (settled : IsSettled (stock hs)) (g : List (List ℕ))
     names_of [] = refl
     names_of (x ∷ xs) = ap (λ rest. x ∷ rest) (names_of xs)
 
-    names_first : (c : ℕ) → sources_now first.stock c ≡ graph_sources g c
+    pub names_first : (c : ℕ) → sources_now first.stock c ≡ graph_sources g c
     names_first c = elim (cases_eq c b) [
       | inl e ↦ subst (λ d. sources_now first.stock d ≡ graph_sources g d) (sym e) (ap (λ x. map (λ v. v.0) (sources_of x)) (record_then first.stock grows_first) ∙ names_of sources ∙ sym here_are)
       | inr ne ↦ ap (λ x. map (λ v. v.0) (sources_of x)) (grown_record_other s first.stock b new grows_first c ne) ∙ sym (others_are c ne)
     ]
 
-    same_names : sources_now first.stock ≡ graph_sources g
+    pub same_names : sources_now first.stock ≡ graph_sources g
     same_names = λ i c. names_first c i
 
-    none_in : (c : ℕ) → height_in g c ≤ height_in g b → (xs : List ℕ) → Each (λ d. height_in g d < height_in g c) xs → list_any (λ source. is_some (step_in first.moves source)) xs ≡ false
-    none_in c le [] l = refl
-    none_in c le (x ∷ xs) l = rw (step_first x (λ e. absurd (let a : height_in g x < height_in g c = l.0 in let f : height_in g x ≡ height_in g b = ap (height_in g) e in omega arith)), none_in c le xs l.1) refl
+    start_first : IsStart s g first
+    start_first = record { levelled = levelled; len = len; same_count = first_made.1; same_most = first_made.2; names = same_names }
 
-    still : (c : ℕ) → height_in g c ≤ height_in g b → risen_at none_given first c ≡ first
-    still c le =
-        let none : is_moved first c ≡ false = ap (list_any (λ source. is_some (step_in first.moves source))) (names_first c) ∙ none_in c le (graph_sources g c) (each_of (λ d. height_in g d < height_in g c) (graph_sources g c) (levelled.lower c)) in
-        rw none refl
+    some_first : (c : ℕ) → c < count s → 0 < length (buffer first.stock c).records
+    some_first c in_ = elim (cases_eq c b) [
+      | inl e ↦ subst (λ d. 0 < length (buffer first.stock d).records) (sym e) (let l : length (buffer first.stock b).records ≡ suc (length (buffer s b).records) = grown_length s first.stock b new grows_first in omega arith)
+      | inr ne ↦ subst (λ xs. 0 < length xs) (sym (grows_first.others c ne)) (settled.some c in_)
+    ]
 
-    passed_still : (xs : List ℕ) → Each (λ c. height_in g c ≤ height_in g b) xs → fold (risen_at none_given) first xs ≡ first
-    passed_still [] h = refl
-    passed_still (x ∷ xs) h = ap (λ r. fold (risen_at none_given) r xs) (still x h.0) ∙ passed_still xs h.1
+    text_first : length (text_now first.stock b) ≡ members_len members
+    text_first = ap length (shown_then first.stock grows_first) ∙ units_len
 
-    comes_at : (ys zs : List ℕ) (c : ℕ) → order_in g ≡ ys ++ c ∷ zs → Comes (height_in g) (length g) 0 (length g + 1) ys c
-    comes_at ys zs c split = order_comes (graph_sources g) (length g) ys c zs split
-
-    there_at : (ys zs : List ℕ) (c : ℕ) → order_in g ≡ ys ++ c ∷ zs → c < count s
-    there_at ys zs c split = subst (λ k. c < k) len (comes_at ys zs c split).there
-
-    cut_order : (ys : List ℕ) × (zs : List ℕ) × (order_in g ≡ ys ++ b ∷ zs)
-    cut_order = among_split b (order_in g) (order_all (graph_sources g) (length g) b (subst (λ k. b < k) (sym len) there) (within_rounds (graph_sources g) (length g) (length g) b))
-
-    module _ (within : first_some (stock_limits (stock hs)) ≡ None) (long : (d : ℕ) → d < count (stock hs) → length (text_now (stock hs) d) ≤ 2 ^ 22) (too_many : 2 ^ 22 < members_len members) (passed rest : List ℕ) (split : order_in g ≡ passed ++ b ∷ rest) where
-      abbrev final : Rising
-      final = fold (risen_at none_given) first (order_in g)
-
-      final_is : final ≡ fold (risen_at none_given) first rest
-      final_is =
-          ap (fold (risen_at none_given) first) split ∙ fold_append (risen_at none_given) first passed (b ∷ rest)
-          ∙ ap (λ r. fold (risen_at none_given) r (b ∷ rest)) (passed_still passed (comes_at passed rest b split).no_higher)
-          ∙ ap (λ r. fold (risen_at none_given) r rest) (still b (omega arith))
-
-      -- what comes behind
-      behind : (c : ℕ) → is_among c rest ≡ true → (ys : List ℕ) × (zs : List ℕ) × (order_in g ≡ (passed ++ b ∷ ys) ++ c ∷ zs)
-      behind c i =
-          let cut : (ys : List ℕ) × (zs : List ℕ) × (rest ≡ ys ++ c ∷ zs) = among_split c rest i in
-          (cut.0, cut.1, split ∙ ap (λ xs. passed ++ b ∷ xs) cut.2 ∙ sym (append_assoc passed (b ∷ cut.0) (c ∷ cut.1)))
-
-      rest_there : Each (λ c. c < count first.stock) rest
-      rest_there = each_among (λ c. c < count first.stock) rest (λ c i. let k : (ys : List ℕ) × (zs : List ℕ) × (order_in g ≡ (passed ++ b ∷ ys) ++ c ∷ zs) = behind c i in subst (λ m. c < m) (sym first_made.1) (there_at (passed ++ b ∷ k.0) k.1 c k.2))
-
-      once : (c : ℕ) → is_among c (passed ++ b ∷ []) ≡ true → is_among c rest ≡ true → ⊥
-      once c early late =
-          let k : (ys : List ℕ) × (zs : List ℕ) × (order_in g ≡ (passed ++ b ∷ ys) ++ c ∷ zs) = behind c late in
-          let e : (passed ++ b ∷ []) ++ k.0 ≡ passed ++ b ∷ k.0 = append_assoc passed (b ∷ []) k.0 in
-          clash (is_among c (passed ++ b ∷ k.0)) (subst (λ xs. is_among c xs ≡ true) e (among_front c (passed ++ b ∷ []) k.0 early)) (comes_at (passed ++ b ∷ k.0) k.1 c k.2).fresh
-
-      some_first : (c : ℕ) → c < count s → 0 < length (buffer first.stock c).records
-      some_first c in_ = elim (cases_eq c b) [
-        | inl e ↦ subst (λ d. 0 < length (buffer first.stock d).records) (sym e) (let l : length (buffer first.stock b).records ≡ suc (length (buffer s b).records) = grown_length s first.stock b new grows_first in omega arith)
-        | inr ne ↦ subst (λ xs. 0 < length xs) (sym (grows_first.others c ne)) (settled.some c in_)
-      ]
-
-      stays_text : (c : ℕ) → c < count s → is_among c (passed ++ b ∷ []) ≡ true → text_now final.stock c ≡ text_now first.stock c
-      stays_text c in_ early =
-          ap (λ r. text_now r.stock c) final_is
-          ∙ text_stays rest first c rest_there (founded_then first.stock grows_first c (now first.stock c) (let l : 0 < length (buffer first.stock c).records = some_first c in_ in omega arith)) (λ late. absurd (once c early late))
-
-      here_long : length (text_now final.stock b) ≡ members_len members
-      here_long = ap length (stays_text b there (among_behind b passed (b ∷ []) (among_itself b [])) ∙ shown_then first.stock grows_first) ∙ units_len
-
-      passed_short : (c : ℕ) → is_among c passed ≡ true → length (text_now final.stock c) ≤ 2 ^ 22
-      passed_short c i =
-          let cut : (ys : List ℕ) × (zs : List ℕ) × (passed ≡ ys ++ c ∷ zs) = among_split c passed i in
-          let at : order_in g ≡ cut.0 ++ c ∷ (cut.1 ++ b ∷ rest) = split ∙ ap (λ xs. xs ++ b ∷ rest) cut.2 ∙ append_assoc cut.0 (c ∷ cut.1) (b ∷ rest) in
-          let in_ : c < count s = there_at cut.0 (cut.1 ++ b ∷ rest) c at in
-          subst (λ xs. length xs ≤ 2 ^ 22) (sym (stays_text c in_ (among_front c passed (b ∷ []) i) ∙ grown_text_now s first.stock b new grows_first settled.founded c (other c i) (settled.some c in_))) (long c in_)
-        where
-          other : (c : ℕ) → is_among c passed ≡ true → c ≢ b
-          other c i e = absurd (clash (is_among b passed) (subst (λ d. is_among d passed ≡ true) e i) (comes_at passed rest b split).fresh)
-
-      -- ---- once the buffer has turned
-
-      abbrev left : Stock
-      left = turned_in final.stock (Some b)
-
-      stay : NamesStay first final
-      stay = subst (NamesStay first) (sym final_is) (names_stay rest first rest_there)
-
-      count_final : count final.stock ≡ count s
-      count_final = stay.same_count ∙ first_made.1
-
-      recs : (c : ℕ) → (buffer left c).records ≡ (buffer final.stock c).records
-      recs c = turned_records final.stock b (subst (λ k. b < k) (sym count_final) there) c
-
-      same_records : record_at left ≡ record_at final.stock
-      same_records = λ i c v. slice_get (recs c i) v
-
-      left_text : (c : ℕ) → text_now left c ≡ text_now final.stock c
-      left_text c = ap (λ f. text f c (now left c)) same_records ∙ ap (λ rs. text_at final.stock c (length rs - 1)) (recs c)
-
-      left_names : sources_now left ≡ graph_sources g
-      left_names = λ i c. (ap (λ (rs : List Record). map (λ v. v.0) (sources_of (unwrap_or (slice_get rs (length rs - 1)) (base [] 0)))) (recs c) ∙ stay.names c ∙ names_first c) i
-
-      left_count : count left ≡ count s
-      left_count = length-set final.stock.buffers b _ ∙ count_final
-
-      ordered : graph_order left ≡ passed ++ b ∷ rest
-      ordered = ap (λ f. order.graph_order f (count left)) left_names ∙ ap (order.graph_order (graph_sources g)) (left_count ∙ sym len) ∙ split
-
-      few : over Which.Buffers left.most_buffers (count left) ≡ None
-      few = ap (λ k. over Which.Buffers k (count left)) (most_all (order_in g) first ∙ first_made.2) ∙ ap (over Which.Buffers s.most_buffers) left_count ∙ (each_none (stock_limits s) within).0
-
-      left_long : first_some (stock_limits left) ≡ Some (Refusal.Limit Which.Units (members_len members))
-      left_long = first_long left passed rest b (members_len members) few ordered
-          (each_among (λ c. length (text_now left c) ≤ 2 ^ 22) passed (λ c i. subst (λ xs. length xs ≤ 2 ^ 22) (sym (left_text c)) (passed_short c i)))
-          (ap length (left_text b) ∙ here_long) too_many
-
-    -- the order of the graph as the stock has it then
-    pub first_order : graph_order first.stock ≡ order_in g
-    first_order = ap (λ f. order.graph_order f (count first.stock)) same_names ∙ ap (order.graph_order (graph_sources g)) (first_made.1 ∙ sym len)
-
-    pub order_there : Each (λ c. c < count first.stock) (order_in g)
-    order_there = each_among (λ c. c < count first.stock) (order_in g) (λ c i. let k : (ys : List ℕ) × (zs : List ℕ) × (order_in g ≡ ys ++ c ∷ zs) = among_split c (order_in g) i in subst (λ m. c < m) (sym first_made.1) (there_at k.0 k.1 c k.2))
-
-    -- the sources at the end of the way are those of the graph
-    pub names_left : sources_now (fold (risen_at none_given) first (order_in g)).stock ≡ graph_sources g
-    names_left = λ i c. ((names_stay (order_in g) first order_there).names c ∙ names_first c) i
-
-    pub all_there : Each (λ c. c < count (stock hs)) (order_in g)
-    all_there = subst (λ k. Each (λ c. c < k) (order_in g)) first_made.1 order_there
-
-    abbrev left_final : Rising
-    left_final = fold (risen_at none_given) (spans_first (stock hs) b stays members) (order_in g)
-
-    pub count_left : count left_final.stock ≡ count (stock hs)
-    count_left = (names_stay (order_in g) first order_there).same_count ∙ first_made.1
-
-    pub order_left : graph_order left_final.stock ≡ order_in g
-    order_left = ap (λ f. order.graph_order f (count left_final.stock)) names_left ∙ ap (order.graph_order (graph_sources g)) (count_left ∙ sym len)
-
-    pub few_left : over Which.Buffers (stock hs).most_buffers (count (stock hs)) ≡ None → over Which.Buffers left_final.stock.most_buffers (count left_final.stock) ≡ None
-    few_left within = ap (λ k. over Which.Buffers k (count left_final.stock)) (most_all (order_in g) first ∙ first_made.2) ∙ ap (over Which.Buffers s.most_buffers) count_left ∙ within
-
-    risen_long : first_some (stock_limits (stock hs)) ≡ None → ((d : ℕ) → d < count (stock hs) → length (text_now (stock hs) d) ≤ 2 ^ 22) → 2 ^ 22 < members_len members → first_some (stock_limits (turned_in (risen none_given first).stock (Some b))) ≡ Some (Refusal.Limit Which.Units (members_len members))
-    unfolding risen
-    risen_long within long too_many = ap (λ xs. first_some (stock_limits (turned_in (fold (risen_at none_given) first xs).stock (Some b)))) first_order ∙ left_long within long too_many cut_order.0 cut_order.1 cut_order.2
+    risen_long : over Which.Buffers (stock hs).most_buffers (count (stock hs)) ≡ None → ((d : ℕ) → d < count (stock hs) → length (text_now (stock hs) d) ≤ 2 ^ 22) → 2 ^ 22 < members_len members → first_some (stock_limits (turned_in (risen none_given first).stock (Some b))) ≡ Some (Refusal.Limit Which.Units (members_len members))
+    risen_long few long too_many =
+        turned_limits (risen none_given first).stock b (subst (λ k. b < k) (sym (ap (λ (u : Rising). count u.stock) (risen_is s g first start_first) ∙ count_left s g first start_first)) there)
+        ∙ only_too_long s g first start_first (founded_then first.stock grows_first) some_first b there
+        (λ c low. step_first c (λ e. absurd (let f : height_in g c ≡ height_in g b = ap (height_in g) e in omega arith))) few
+        (λ c in_ ne. subst (λ xs. length xs ≤ 2 ^ 22) (sym (grown_text_now s first.stock b new grows_first settled.founded c ne (settled.some c in_))) (long c in_))
+        (subst (λ k. 2 ^ 22 < k) (sym text_first) too_many)
+        ∙ ap (λ k. Some (Refusal.Limit Which.Units k)) text_first
 
   -- too long a text of the buffer itself is refused
-  pub spans_too_long : (from removed : ℕ) (added : List Member) → members ≡ spans_replaced (members_now (stock hs) b) from removed added → first_some (stock_limits (stock hs)) ≡ None → ((d : ℕ) → d < count (stock hs) → length (text_now (stock hs) d) ≤ 2 ^ 22) → 2 ^ 22 < members_len members
+  pub spans_too_long : (from removed : ℕ) (added : List Member) → members ≡ spans_replaced (members_now (stock hs) b) from removed added → over Which.Buffers (stock hs).most_buffers (count (stock hs)) ≡ None → ((d : ℕ) → d < count (stock hs) → length (text_now (stock hs) d) ≤ 2 ^ 22) → 2 ^ 22 < members_len members
       → first_some (stock_limits (spans_set (stock hs) b from removed added).stock) ≡ Some (Refusal.Limit Which.Units (members_len members))
   unfolding spans_set
-  spans_too_long from removed added is within long too_many =
-      ap (λ ms. first_some (stock_limits (turned_in (risen none_given (spans_first s b (stay_around from removed (length added)) ms)).stock (Some b)))) (sym is) ∙ risen_long (stay_around from removed (length added)) within long too_many
+  spans_too_long from removed added is few long too_many =
+      ap (λ ms. first_some (stock_limits (turned_in (risen none_given (spans_first s b (stay_around from removed (length added)) ms)).stock (Some b)))) (sym is) ∙ risen_long (stay_around from removed (length added)) few long too_many
 
   -- what the definitions say of replaced spans is the way, and one turn more
-  pub spans_are : (from removed : ℕ) (added : List Member) → members ≡ spans_replaced (members_now (stock hs) b) from removed added → (r : Rising) → fold (risen_at none_given) (spans_first (stock hs) b (stay_around from removed (length added)) members) (order_in g) ≡ r
-      → spans_set (stock hs) b from removed added ≡ record { stock = turned_in r.stock (Some b); moves = r.moves }
-  unfolding spans_set risen
-  spans_are from removed added is r folded =
-      ap (λ ms. turned_rising (risen none_given (spans_first s b (stay_around from removed (length added)) ms))) (sym is)
-      ∙ ap (λ xs. turned_rising (fold (risen_at none_given) (spans_first s b (stay_around from removed (length added)) members) xs)) (first_order (stay_around from removed (length added)))
-      ∙ ap turned_rising folded
-    where
-      turned_rising : Rising → Rising
-      turned_rising u = record { stock = turned_in u.stock (Some b); moves = u.moves }
+  pub spans_land : (from removed : ℕ) (added : List Member) → members ≡ spans_replaced (members_now (stock hs) b) from removed added → (r : Rising) → spans_first (stock hs) b (stay_around from removed (length added)) members ≡ r
+      → turned_rising (Some b) (risen none_given r) ≡ spans_set (stock hs) b from removed added
+  unfolding spans_set
+  spans_land from removed added is r first_is = sym (
+      ap (λ ms. turned_rising (Some b) (risen none_given (spans_first s b (stay_around from removed (length added)) ms))) (sym is)
+      ∙ ap (λ u. turned_rising (Some b) (risen none_given u)) first_is)

@@ -15,10 +15,11 @@ use Rattle.ed_group.specs.declared.moves.Move.{Move}
 use Rattle.ed_group.specs.Climbing.{CanRise, HasRisen, HasTurned, Rested, TurnedBy, WentAlong, goes, move_to}
 use Rattle.ed_group.specs.Advancing.{members_next}
 use Rattle.ed_group.specs.Route.{Climbs, IsRoute, IsTooLong, Route}
-use Rattle.ed_group.specs.Seen.{stock}
+use Rattle.ed_group.specs.Seen.{stock, stock_of, Known}
 use Rattle.ed_group.proofs.Climb.{can_rise, climbs_on, moves_here, passes}
 use Rattle.ed_group.specs.Moves.{move_seen, rising_of}
 use Rattle.ed_group.proofs.Moved.{seen_steps}
+use Rattle.ed_risen.proofs.Turns.{rests, turns}
 
 pub steps_are : (shown steps : List SourceSteps) (ms : List Move) → shown ≡ steps → map (λ x. (x.source, step_seen x)) steps ≡ map move_seen ms → steps_seen shown ≡ step_in (map move_seen ms)
 steps_are shown steps ms same seen = ap steps_seen same ∙ seen_steps steps ∙ ap step_in seen
@@ -58,13 +59,13 @@ module _ (w : Route) (order : List ℕ) (route : IsRoute w order) (passed rest :
   Passed : Type 0
   Passed = (done' : List ℕ) × Climbs w (passed ++ b ∷ []) done' hs' ms'
 
-  rested_on : is_moved (rising_of (stock w.before) ms) b ≡ false → (hs' ≡ hs) × (ms' ≡ ms) → Passed
+  rested_on : is_moved (rising_of (stock_of w.before) ms) b ≡ false → (hs' ≡ hs) × (ms' ≡ ms) → Passed
   unfolding Passed
   rested_on rests same =
       let p : (done' : List ℕ) × Climbs w (passed ++ b ∷ []) done' hs ms = passes w order route passed done hs ms climbs rest b split rests in
       (p.0, subst (λ xs. Climbs w (passed ++ b ∷ []) p.0 xs ms') (sym same.0) (subst (λ xs. Climbs w (passed ++ b ∷ []) p.0 hs xs) (sym same.1) p.1))
 
-  went_on : is_moved (rising_of (stock w.before) ms) b ≡ true → (x : Held) → h ≡ x → (n : Next) → ms' ≡ ms ++ move_to b n ∷ [] → HasRisen hs hs' ms (step_in (map move_seen ms)) b x (Ok n) → Passed
+  went_on : is_moved (rising_of (stock_of w.before) ms) b ≡ true → (x : Held) → h ≡ x → (n : Next) → ms' ≡ ms ++ move_to b n ∷ [] → HasRisen hs hs' ms (step_in (map move_seen ms)) b x (Ok n) → Passed
   unfolding Passed
   went_on moved (Held.Base x) is n pushed risen = absurd risen
   went_on moved (Held.Projection p turns) is n pushed risen =
@@ -72,7 +73,7 @@ module _ (w : Route) (order : List ℕ) (route : IsRoute w order) (passed rest :
       climbs_on w order route passed done hs ms climbs rest b split h held moved p risen.0 turns is n risen.3 risen.4 risen.2 risen.5 risen.6 hs' risen.1 in
       (b ∷ done, subst (λ xs. Climbs w (passed ++ b ∷ []) (b ∷ done) hs' xs) (sym pushed) on)
 
-  stopped : is_moved (rising_of (stock w.before) ms) b ≡ true → (x : Held) → h ≡ x → (e : ProjectionFault) → HasRisen hs hs' ms (step_in (map move_seen ms)) b x (Err e) → (e ≡ ProjectionFault.OutOfMemory) ⊎ ((len : ℕ) × (e ≡ ProjectionFault.Units len) × IsTooLong w order len)
+  stopped : is_moved (rising_of (stock_of w.before) ms) b ≡ true → (x : Held) → h ≡ x → (e : ProjectionFault) → HasRisen hs hs' ms (step_in (map move_seen ms)) b x (Err e) → (e ≡ ProjectionFault.OutOfMemory) ⊎ ((len : ℕ) × (e ≡ ProjectionFault.Units len) × IsTooLong w order len)
   stopped moved (Held.Base x) is e risen = inl risen
   stopped moved (Held.Projection p turns) is e (inl oom) = inl oom
   stopped moved (Held.Projection p turns) is e (inr long) =
@@ -80,7 +81,7 @@ module _ (w : Route) (order : List ℕ) (route : IsRoute w order) (passed rest :
       let f : (e ≡ ProjectionFault.Units n) × (2 ^ 22 < n) = long_of n e long.0 in
       inr (n, f.0, record { passed = passed; rest = rest; b = b; done = done; hs = hs; ms = ms; p = p; turns = turns; split = split; climbs = climbs; held = held ∙ ap Some is; moved = moved; len_is = refl; long = f.1; ends = long.1 })
 
-  moved_is : goes ms b h ≡ is_moved (rising_of (stock w.before) ms) b
+  moved_is : goes ms b h ≡ is_moved (rising_of (stock_of w.before) ms) b
   moved_is = moves_here w order route passed done hs ms climbs rest b split h held
 
   pub turned_on : (x : Unit {0}) → HasTurned hs hs' ms ms' b h (Ok x) → (done' : List ℕ) × Climbs w (passed ++ b ∷ []) done' hs' ms'

@@ -13,78 +13,28 @@ use Rattle.ed_layers.specs.Records.{Record, base, elision, members_of, projectio
 use Rattle.ed_stock.specs.Limits.{inserted, over, placements, some_over, stock_limits, versions}
 use Rattle.ed_stock.specs.Stock.{Stock, buffer, count, graph_order, now, record_at, record_now, sources_now, text_at, text_now}
 use Rattle.ed_group.specs.declared.counts.Counts.{Counts}
-use Rattle.ed_group.specs.Founded.{Founded}
-use Rattle.ed_group.specs.Group.{known_turned, set_known, turn, turned_in}
+use Rattle.ed_risen.specs.Founded.{Founded}
+use Rattle.ed_group.specs.Group.{known_turned, set_known, IsProjection, MayTurn}
+use Rattle.ed_risen.specs.Counting.{turn, turned_in}
 use Rattle.ed_group.specs.Kept.{IsKept}
-use Rattle.ed_group.specs.Laws.{HasOneVersionEach, OneVector}
-use Rattle.ed_group.specs.Rising.{EndsIn, Inside, IsNow, IsSettled}
-use Rattle.ed_group.specs.Seen.{Known, stock_of}
+use Rattle.ed_risen.specs.Laws.{HasOneVersionEach, OneVector}
+use Rattle.ed_risen.specs.Rising.{EndsIn, Inside, IsNow, IsSettled}
+use Rattle.ed_group.specs.Seen.{Known, stock_of, known, last_of, stock}
 use Rattle.ed_group.proofs.Committed.{stock_set}
-use Rattle.ed_group.proofs.Counting.{inserted_turned, placements_turned, versions_turned}
-use Rattle.ed_group.proofs.FoundedLemmas.{each_weaker}
+use Rattle.ed_risen.proofs.Counting.{inserted_turned, placements_turned, versions_turned}
+use Rattle.ed_risen.proofs.FoundedLemmas.{each_weaker}
 use Rattle.ed_group.proofs.Leaving.{set_at}
-use Rattle.ed_group.proofs.Spanned.{turned_records}
-
-module _ (t : Stock) (b : ℕ) (there : b < count t) where
-  abbrev v : Stock
-  v = turned_in t (Some b)
-
-  recs : (c : ℕ) → (buffer v c).records ≡ (buffer t c).records
-  recs c = turned_records t b there c
-
-  pub same_records : record_at v ≡ record_at t
-  same_records = λ i c w. slice_get (recs c i) w
-
-  pub same_now : now v ≡ now t
-  same_now = λ i c. length (recs c i) - 1
-
-  same_text : text_now v ≡ text_now t
-  same_text = λ i c. text (same_records i) c (same_now i c)
-
-  same_current : record_now v ≡ record_now t
-  same_current = λ i c. unwrap_or (same_records i c (same_now i c)) (base [] 0)
-
-  pub same_names : sources_now v ≡ sources_now t
-  same_names = λ i c. map (λ w. w.0) (sources_of (same_current i c))
-
-  pub same_count : count v ≡ count t
-  same_count = length-set t.buffers b _
-
-  same_order : graph_order v ≡ graph_order t
-  same_order = ap (λ f. order.graph_order f (count v)) same_names ∙ ap (order.graph_order (sources_now t)) same_count
-
-  ends_then : (vs : List (ℕ × ℕ)) (m : Member) → EndsIn t vs m → EndsIn v vs m
-  ends_then vs (Member.Literal units) e = tt
-  ends_then vs (Member.Tracked source bounds mode) e = (e.0 ∙ ap Some (sym (ap (λ (f : ℕ → ℕ). f source) same_now)), subst (λ (f : ℕ → List ℕ). end_of bounds ≤ length (f source)) (sym same_text) e.1)
-
-  inside_then : (x : Record) → Inside t x → Inside v x
-  inside_then (base units reiterated) h = tt
-  inside_then (projection ms vs) h = each_weaker (EndsIn t vs) (EndsIn v vs) (ends_then vs) ms h
-  inside_then (elision flags source version) h = absurd h
-
-  pub turned_settled : IsSettled t → IsSettled v
-  turned_settled h = record {
-    founded = λ c w l. subst (λ f. Founded f 9 (c, w)) (sym same_records) (h.founded c w (subst (λ xs. w < length xs) (recs c) l));
-    some = λ c l. subst (λ xs. 0 < length xs) (sym (recs c)) (h.some c (subst (λ k. c < k) same_count l));
-    current = λ c l. subst (λ x. Each (IsNow v) (sources_of x)) (sym (ap (λ (f : ℕ → Record). f c) same_current)) (subst (λ (f : ℕ → ℕ). Each (λ w. w.1 ≡ f w.0) (sources_of (record_now t c))) (sym same_now) (h.current c (subst (λ k. c < k) same_count l)));
-    inside = λ c l. subst (Inside v) (sym (ap (λ (f : ℕ → Record). f c) same_current)) (inside_then (record_now t c) (h.inside c (subst (λ k. c < k) same_count l)));
-  }
-
-  turned_one : OneVector t → OneVector v
-  turned_one one c w l = subst (λ f. HasOneVersionEach (vector f c w)) (sym same_records) (one c w (subst (λ xs. w < length xs) (recs c) l))
-
-  pub turned_limits : first_some (stock_limits v) ≡ first_some (stock_limits t)
-  turned_limits =
-      whole (count v) (count t) (map (λ c. length (text_now v c)) (graph_order v)) (map (λ c. length (text_now t c)) (graph_order t)) (inserted v) (inserted t) (versions v) (versions t)
-      (map (λ c. length (members_of (record_now v c))) (graph_order v)) (map (λ c. length (members_of (record_now t c))) (graph_order t)) (placements v) (placements t)
-      same_count (ap (λ (f : ℕ → List ℕ). map (λ c. length (f c)) (graph_order v)) same_text ∙ ap (map (λ c. length (text_now t c))) same_order)
-      (inserted_turned t (Some b) there) (versions_turned t (Some b) there)
-      (ap (λ (f : ℕ → Record). map (λ c. length (members_of (f c))) (graph_order v)) same_current ∙ ap (map (λ c. length (members_of (record_now t c)))) same_order) (placements_turned t (Some b) there)
-    where
-      whole : (n n' : ℕ) (us us' : List ℕ) (i i' w w' : ℕ) (ms ms' : List ℕ) (p p' : ℕ) → n ≡ n' → us ≡ us' → i ≡ i' → w ≡ w' → ms ≡ ms' → p ≡ p' →
-          first_some (over Which.Buffers t.most_buffers n ∷ some_over Which.Units (2 ^ 22) us ∷ over Which.Inserted (2 ^ 27) i ∷ over Which.Versions t.most_versions w ∷ some_over Which.Members 1024 ms ∷ over Which.Placements (2 ^ 26) p ∷ [])
-          ≡ first_some (over Which.Buffers t.most_buffers n' ∷ some_over Which.Units (2 ^ 22) us' ∷ over Which.Inserted (2 ^ 27) i' ∷ over Which.Versions t.most_versions w' ∷ some_over Which.Members 1024 ms' ∷ over Which.Placements (2 ^ 26) p' ∷ [])
-      whole n n' us us' i i' w w' ms ms' p p' e1 e2 e3 e4 e5 e6 = rw (e1, e2, e3, e4, e5, e6) refl
+use Rattle.ed_risen.proofs.Turning.{turned_records, same_names, same_records, turned_limits, turned_one, turned_settled}
+use Rattle.ed_group.proofs.Asked.{base_last, held_at, held_is, held_some, projection_last}
+use Rattle.ed_risen.proofs.Lists.{clash}
+use Rattle.ed_risen.proofs.Turns.{turns}
+use Rattle.ed_group.specs.declared.held.Held.{Held}
+use Rattle.std.specs.Prelude.{MatchOption}
+use Rattle.std.proofs.Common.{◌+◌, arith}
+use Rattle.std.proofs.lemmas.List.{length-map}
+use Rattle.ed_stock.specs.Stock.{Buffer, buffer}
+use Rattle.ed_layers.specs.Records.{is_carrier}
+use Rattle.ed_project.specs.Records.{record_of as projection_record}
 
 -- of what is known
 module _ (ks : List Known) (b : ℕ) (graph : List (List ℕ)) (counts : Counts) (kept : IsKept ks graph counts) (there : b < count (stock_of ks)) where
@@ -123,3 +73,21 @@ module _ (ks : List Known) (b : ℕ) (graph : List (List ℕ)) (counts : Counts)
     versions = kept.versions ∙ sym (ap versions turned_is ∙ versions_turned (stock_of ks) (Some b) there);
     placements = kept.placements ∙ sym (ap placements turned_is ∙ placements_turned (stock_of ks) (Some b) there);
   }
+
+pub turn_kept : (h h₂ : Held) → (known h₂).buffer ≡ (known h).buffer → 0 < length (known h).buffer.records → IsProjection h → IsProjection h₂
+turn_kept (Held.Base x) h₂ same some may = absurd may
+turn_kept (Held.Projection p turns) (Held.Projection p₂ turns₂) same some may = subst (λ k. k + 1 < 2 ^ 32) (sym (ap (λ (x : Buffer). x.turns) same)) may
+turn_kept (Held.Projection p turns) (Held.Base x) same some may =
+    let carrier : is_carrier (last_of (known (Held.Projection p turns)).buffer) ≡ true = ap is_carrier (projection_last p turns (omega (arith, some, length-map p.versions projection_record))) in
+    let bare : is_carrier (last_of (known (Held.Base x)).buffer) ≡ false = base_last x.chain.versions (length (known (Held.Base x)).buffer.records - 1) in
+    absurd (clash (is_carrier (last_of (known (Held.Projection p turns)).buffer)) carrier (ap (λ y. is_carrier (last_of y)) (sym same) ∙ bare))
+
+module _ (hs : List Held) (graph : List (List ℕ)) (counts : Counts) (kept : IsKept (map known hs) graph counts) (b : ℕ) (there : b < count (stock hs)) where
+  -- buffers that are known alike turn alike
+  pub may_turn : (hs₂ : List Held) → map known hs₂ ≡ map known hs → ((h : Held) → slice_get hs b ≡ Some h → IsProjection h) → MayTurn hs₂ b
+  may_turn hs₂ same may =
+      let old : (h : Held) × (slice_get hs b ≡ Some h) = held_at hs b there in
+      let new : (h : Held) × (slice_get hs₂ b ≡ Some h) = held_at hs₂ b (subst (λ ks. b < count (stock_of ks)) (sym same) there) in
+      let kept₂ : IsKept (map known hs₂) graph counts = subst (λ ks. IsKept ks graph counts) (sym same) kept in
+      subst (λ (o : Option Held). MatchOption o ⊥ IsProjection) (sym new.1)
+      (turn_kept old.0 new.0 (held_is hs₂ graph counts kept₂ b new.0 new.1 ∙ ap (λ ks. buffer (stock_of ks) b) same ∙ sym (held_is hs graph counts kept b old.0 old.1)) (held_some hs graph counts kept b old.0 old.1) (may old.0 old.1))

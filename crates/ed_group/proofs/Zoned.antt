@@ -17,18 +17,18 @@ use Rattle.ed_stock.specs.Stock.{Stock, Buffer, buffer, count, record_now, text_
 use Rattle.ed_group.specs.Asking.{IsBase, zoned, zoned_buffer}
 use Rattle.ed_group.specs.declared.counts.Counts.{Counts}
 use Rattle.ed_group.specs.declared.held.Held.{Held}
-use Rattle.ed_group.specs.Founded.{Founded}
+use Rattle.ed_risen.specs.Founded.{Founded}
 use Rattle.ed_group.specs.Kept.{IsKept}
-use Rattle.ed_group.specs.Laws.{HasOneVersionEach}
-use Rattle.ed_group.specs.Rising.{Inside, IsSettled}
+use Rattle.ed_risen.specs.Laws.{HasOneVersionEach}
+use Rattle.ed_risen.specs.Rising.{Inside, IsSettled}
 use Rattle.ed_group.specs.Seen.{Known, known, last_of, stock, stock_of, text_of}
 use Rattle.ed_buffer.specs.Planning.{Base}
 use Rattle.ed_group.proofs.Advanced.{map_set}
 use Rattle.ed_group.proofs.Asked.{base_held, held_is, held_some, held_texts, texts_count}
 use Rattle.ed_group.proofs.Committed.{set_map}
-use Rattle.ed_group.proofs.Counting.{inserted_changed, inserted_of, placements_changed, placements_of, versions_changed, versions_of}
-use Rattle.ed_group.proofs.Growth.{missing, set_here, set_other}
-use Rattle.ed_group.proofs.RisingSteps.{Same, inside_same}
+use Rattle.ed_risen.proofs.Counting.{inserted_changed, inserted_of, placements_changed, placements_of, versions_changed, versions_of}
+use Rattle.ed_risen.proofs.Growth.{missing, set_here, set_other}
+use Rattle.ed_risen.proofs.RisingLemmas.{Same, inside_same}
 use Rattle.ed_group.proofs.Snapshots.{get_map}
 
 -- ---- what is so of a stock by its records alone

@@ -10,7 +10,7 @@ use Rattle.ed_stock.specs.Making.{sources_in, spans_replaced, spans_set}
 use Rattle.ed_group.specs.Answers.{members_now, spans_fault}
 use Rattle.ed_group.specs.Climbing.{move_to}
 use Rattle.ed_group.specs.declared.held.Held.{Held}
-use Rattle.ed_group.specs.Route.{Climbs, IsRoute}
+use Rattle.ed_group.specs.Route.{Climbs}
 use Rattle.ed_group.specs.Seen.{stock}
 use Rattle.ed_group.specs.Spanning.{below, spans_first, spans_route}
 
@@ -23,5 +23,4 @@ pub record HasBegunSpans (hs hs' : List Held) (graph : List (List ℕ)) (b first
   pub graph_is : r.0 ≡ linked graph b (sources_in [] (members_then hs b first removed added))
   pub levelled : IsLevelled r.0
   pub limits : spans_fault (stock hs) b first removed added ≡ first_some (stock_limits (spans_set (stock hs) b first removed added).stock)
-  pub route : IsRoute (spans_route hs r.0 b (spans_first (stock hs) b (stay_around first removed (length added)) (members_then hs b first removed added))) (order_in r.0)
   pub climbs : Climbs (spans_route hs r.0 b (spans_first (stock hs) b (stay_around first removed (length added)) (members_then hs b first removed added))) [] (b ∷ below r.0 b) hs' (move_to b r.1 ∷ [])

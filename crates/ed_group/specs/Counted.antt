@@ -4,14 +4,11 @@ use Rattle.ed_base.specs.ChangeList.{inserted_len}
 use Rattle.ed_layers.specs.Records.{Record, is_tracked, members_of}
 use Rattle.ed_stock.specs.Limits.{inserted, placements, versions}
 use Rattle.ed_stock.specs.Stock.{Stock}
+use Rattle.ed_risen.specs.Counting.{tracked_in}
 use Rattle.ed_group.specs.declared.counts.Counts.{Counts}
 use Rattle.ed_group.specs.declared.moves.Move.{Move}
 use Rattle.ed_group.specs.declared.moves.Planned.{Planned}
 use Rattle.ed_group.specs.Moves.{changes_of, record_of, snapshot_of}
-
--- the tracked members of a record
-abbrev pub tracked_in : Record → ℕ
-tracked_in r = count_by is_tracked (members_of r)
 
 abbrev pub counts_with : Counts → Planned → Counts
 counts_with c p = record {

@@ -8,7 +8,8 @@ use Rattle.ed_stock.specs.Stock.{Stock, Buffer, buffer, record_at, with_buffer}
 use Rattle.ed_group.specs.declared.counts.Counts.{Counts}
 use Rattle.ed_group.specs.declared.held.Held.{Held}
 use Rattle.ed_group.specs.declared.moves.Move.{Move}
-use Rattle.ed_group.specs.Founded.{Extends}
+use Rattle.ed_risen.specs.Counting.{turn, turned_in}
+use Rattle.ed_risen.specs.Founded.{Extends}
 use Rattle.ed_group.specs.Kept.{IsKept}
 use Rattle.ed_group.specs.Moves.{AreApart, IsPlannedAt, changes_of, record_of, snapshot_of, with_move}
 use Rattle.ed_group.specs.Seen.{Known, known, stock}
@@ -20,14 +21,6 @@ pub record Plan : Type 0 where
   pub graph : List (List ℕ)
   pub counts : Counts
   pub versions : List (ℕ × ℕ)
-
--- a buffer whose members were set once more
-abbrev pub turn : Buffer → Buffer
-turn x = record x { turns = x.turns + 1 }
-
-abbrev pub turned_in : Stock → Option ℕ → Stock
-turned_in s None = s
-turned_in s (Some b) = with_buffer s b (turn (buffer s b))
 
 -- the stock that the group leaves
 abbrev pub outcome : Stock → Plan → Stock

@@ -3,8 +3,8 @@ use Rattle.std.specs.Prelude.{◌≡◌, ℕ, List, length, map, slice_get, Some
 use Rattle.ed_base.specs.Numbers.{first_some, places}
 use Rattle.ed_stock.specs.Stock.{sources_now, text_at}
 use Rattle.ed_stock.specs.Limits.{inserted, versions, placements, stock_limits}
-use Rattle.ed_group.specs.Laws.{OneVector}
-use Rattle.ed_group.specs.Rising.{IsSettled}
+use Rattle.ed_risen.specs.Laws.{OneVector}
+use Rattle.ed_risen.specs.Rising.{IsSettled}
 use Rattle.ed_group.specs.Seen.{Known, stock_of}
 use Rattle.ed_group.specs.declared.counts.Counts.{Counts}
 

@@ -1,7 +1,4 @@
-pub mod Founded
-pub mod Growing
-pub mod Laws
-pub mod Rising
+pub use Rattle.ed_risen.specs.Laws
 pub mod Seen
 pub mod Moves
 pub mod Advancing
@@ -18,3 +15,4 @@ pub mod Counted
 pub mod Editing
 pub mod Spanning
 pub mod Begun
+pub mod Begins

@@ -13,7 +13,7 @@ use Rattle.ed_project.specs.Planning as projections
 use Rattle.ed_group.specs.declared.held.Held.{Held}
 use Rattle.ed_group.specs.declared.moves.Planned.{Planned}
 use Rattle.ed_group.specs.declared.moves.Move.{Move}
-use Rattle.ed_group.specs.Rising.{plain}
+use Rattle.ed_risen.specs.Rising.{plain}
 use Rattle.ed_group.specs.Seen.{Known, known, text_of}
 
 -- what leads to the version, its record and its snapshot

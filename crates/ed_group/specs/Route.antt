@@ -13,12 +13,12 @@ use Rattle.ed_group.specs.declared.held.Held.{Held}
 use Rattle.ed_group.specs.declared.moves.Move.{Move}
 use Rattle.ed_group.specs.Advancing.{members_next}
 use Rattle.ed_group.specs.Moves.{AreApart, IsPlannedAt, move_of, move_seen, rising_of, snapshot_of}
-use Rattle.ed_group.specs.Rising.{IsSettled, Rises}
+use Rattle.ed_risen.specs.Rising.{IsSettled, Rises}
 use Rattle.ed_group.specs.Seen.{Known, known, stock, stock_of}
 
 -- The buffers before, their heights, those that may have other sources than before, those that are done before the way begins, and what has happened by then.
 pub record Route : Type 0 where
-  pub before : List Held
+  pub before : List Known
   pub height : ℕ → ℕ
   pub start : List ℕ
   pub initial : List ℕ
@@ -31,15 +31,15 @@ pub record AreTrue (ks : List Known) : Type 0 where
 
 -- A buffer on the way: it comes once, behind its sources, which stand lower.
 pub record IsReached (w : Route) (passed : List ℕ) (b : ℕ) : Type 0 where
-  pub there : b < count (stock w.before)
+  pub there : b < count (stock_of w.before)
   pub fresh : is_among b passed ≡ false
   pub shallow : w.height b ≤ 8
-  pub low : is_among b w.start ≡ false → Each (λ v. (is_among v.0 passed ≡ true) × (v.0 < count (stock w.before)) × (w.height v.0 < w.height b)) (sources_of (record_now (stock w.before) b))
+  pub low : is_among b w.start ≡ false → Each (λ v. (is_among v.0 passed ≡ true) × (v.0 < count (stock_of w.before)) × (w.height v.0 < w.height b)) (sources_of (record_now (stock_of w.before) b))
 
 -- the way through these buffers
 pub record IsRoute (w : Route) (order : List ℕ) : Type 0 where
-  pub settled : IsSettled (stock w.before)
-  pub true : AreTrue (map known w.before)
+  pub settled : IsSettled (stock_of w.before)
+  pub true : AreTrue (w.before)
   pub reached : (passed rest : List ℕ) (b : ℕ) → order ≡ passed ++ b ∷ rest → IsReached w passed b
 
 -- the current version of a buffer of a stock
@@ -51,19 +51,19 @@ IsNewest s m = snapshot_of m.planned ≡ newest s m.buffer
 
 -- Some of the way is gone: these buffers were passed, these are done, and these versions are planned.
 pub record Climbs (w : Route) (passed done : List ℕ) (hs : List Held) (ms : List Move) : Type 0 where
-  pub same : map known hs ≡ map known w.before
-  pub rises : Rises (stock w.before) w.height w.start done (rising_of (stock w.before) ms)
-  pub folded : fold (risen_at none_given) w.first passed ≡ rising_of (stock w.before) ms
+  pub same : map known hs ≡ w.before
+  pub rises : Rises (stock_of w.before) w.height w.start done (rising_of (stock_of w.before) ms)
+  pub folded : fold (risen_at none_given) w.first passed ≡ rising_of (stock_of w.before) ms
   pub planned : Each (IsPlannedAt hs) ms
   pub apart : AreApart ms
-  pub known_buffers : Each (λ m. m.buffer < count (stock w.before)) ms
+  pub known_buffers : Each (λ m. m.buffer < count (stock_of w.before)) ms
   pub at_once : (c : ℕ) → is_among c w.initial ≡ true → is_among c done ≡ true
-  pub newest : Each (IsNewest (rising_of (stock w.before) ms).stock) ms
-  pub quiet : (c : ℕ) → is_among c w.initial ≡ true → is_moved (rising_of (stock w.before) ms) c ≡ false
+  pub newest : Each (IsNewest (rising_of (stock_of w.before) ms).stock) ms
+  pub quiet : (c : ℕ) → is_among c w.initial ≡ true → is_moved (rising_of (stock_of w.before) ms) c ≡ false
   pub begun : (c : ℕ) → is_among c w.start ≡ true → is_some (move_of ms c) ≡ true
   pub origin : (c : ℕ) → is_among c done ≡ true → (is_among c passed ≡ true) ⊎ (is_among c w.initial ≡ true)
   pub covers : (c : ℕ) → is_among c passed ≡ true → is_among c done ≡ true
-  pub fits : (c : ℕ) → c < count (stock w.before) → length (text_now (rising_of (stock w.before) ms).stock c) ≤ 2 ^ 22
+  pub fits : (c : ℕ) → c < count (stock_of w.before) → length (text_now (rising_of (stock_of w.before) ms).stock c) ≤ 2 ^ 22
 
 -- Some of the way is gone, and the version that comes next is longer than a text may be: so long.
 pub record IsTooLong (w : Route) (order : List ℕ) (len : ℕ) : Type 0 where
@@ -78,7 +78,7 @@ pub record IsTooLong (w : Route) (order : List ℕ) (len : ℕ) : Type 0 where
   pub split : order ≡ passed ++ b ∷ rest
   pub climbs : Climbs w passed done hs ms
   pub held : slice_get hs b ≡ Some (Held.Projection p turns)
-  pub moved : is_moved (rising_of (stock w.before) ms) b ≡ true
+  pub moved : is_moved (rising_of (stock_of w.before) ms) b ≡ true
   pub len_is : members_len (members_next (step_in (map move_seen ms)) p) ≡ len
   pub long : 2 ^ 22 < len
   pub ends : All (EndsInNew (step_in (map move_seen ms))) (members_next (step_in (map move_seen ms)) p)

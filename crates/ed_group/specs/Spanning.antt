@@ -1,5 +1,5 @@
 -- The way of a group that replaces members of a projection.
-use Rattle.std.specs.Prelude.{◌≡◌, ℕ, ◌+◌, ◌≤◌, List, [], ◌∷◌, length, filter, nat_lt, slice_set, Option, Some, None, Result, IfOk, option_map}
+use Rattle.std.specs.Prelude.{◌≡◌, ℕ, ◌+◌, ◌≤◌, List, [], ◌∷◌, length, map, filter, nat_lt, slice_set, Option, Some, None, Result, IfOk, option_map}
 use Rattle.ed_base.specs.declared.Member.{Member}
 use Rattle.ed_base.specs.declared.Refusal.{Refusal}
 use Rattle.ed_base.specs.Numbers.{or_else, places}
@@ -18,6 +18,7 @@ use Rattle.ed_version.specs.declared.Snapshot.{Snapshot}
 use Rattle.ed_group.specs.declared.held.Held.{Held}
 use Rattle.ed_group.specs.Placed.{too_deep}
 use Rattle.ed_group.specs.Route.{Route}
+use Rattle.ed_group.specs.Seen.{known}
 
 -- the buffers that stand lower than this one
 abbrev pub below : List (List ℕ) → ℕ → List ℕ
@@ -25,7 +26,7 @@ below g b = filter (λ c. nat_lt (height_in g c) (height_in g b)) (places (lengt
 
 -- The way over the new graph: the buffer alone may have other sources than before, and it and those that stand lower are done before the way begins.
 abbrev pub spans_route : List Held → List (List ℕ) → ℕ → Rising → Route
-spans_route hs g b first = record { before = hs; height = height_in g; start = b ∷ []; initial = b ∷ below g b; first = first }
+spans_route hs g b first = record { before = map known hs; height = height_in g; start = b ∷ []; initial = b ∷ below g b; first = first }
 
 -- the buffer has its version with these members, of which those stay that `stays` has the old index of
 abbrev pub spans_first : Stock → ℕ → (ℕ → Option ℕ) → List Member → Rising

@@ -3,7 +3,7 @@ ghost use Rattle.std.specs.Prelude.{◌≡◌, ◌+◌, ◌<◌, ◌≤◌, ◌^
 ghost use Rattle.ed_stock.specs.Stock.{count};
 ghost use Rattle.ed_group.specs.Answers.{LiesIn, Refuses, base_fault, projection_fault, with_base, with_projection};
 ghost use Rattle.ed_group.specs.Kept.{IsKept};
-ghost use Rattle.ed_group.specs.Laws.{RecordsStay};
+ghost use Rattle.ed_risen.specs.Laws.{RecordsStay};
 ghost use Rattle.ed_group.specs.Limited.{new_limit};
 ghost use Rattle.ed_group.specs.Seen.{known, stock};
 

@@ -2,7 +2,8 @@
 ghost use Rattle.std.specs.Prelude.{◌≡◌, ◌+◌, length, map, count_by, sum_by, IfOk};
 ghost use Rattle.ed_base.specs.ChangeList.{inserted_len};
 ghost use Rattle.ed_layers.specs.Records.{is_tracked};
-ghost use Rattle.ed_group.specs.Counted.{counts_after, counts_with, told, tracked_in};
+ghost use Rattle.ed_group.specs.Counted.{counts_after, counts_with, told};
+ghost use Rattle.ed_risen.specs.Counting.{tracked_in};
 ghost use Rattle.ed_group.specs.Moves.{record_of};
 
 use crate::counts::Counts;

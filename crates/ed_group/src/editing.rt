@@ -1,25 +1,27 @@
 //! Edits of bases, planned.
-ghost use Rattle.std.specs.Prelude.{◌≡◌, ◌<◌, ◌≤◌, ◌^◌, [], length, map, OnOk, IfOk, Some, slice_get, false};
+ghost use Rattle.std.specs.Prelude.{◌≡◌, ◌<◌, ◌≤◌, ◌^◌, [], length, map, Err, None, OnOk, IfOk, MatchResult, Some, slice_get, false};
 ghost use Rattle.ed_base.specs.ChangeList.{inserted_len};
 ghost use Rattle.ed_callbacks.specs.HookLists.{hook_table};
 ghost use Rattle.ed_layers.specs.Records.{is_carrier};
 ghost use Rattle.ed_members.specs.Steps.{step_seen};
 ghost use Rattle.ed_stock.specs.Stock.{count, record_now, text_now};
 ghost use Rattle.ed_stock.specs.Versions.{versions_made};
+ghost use Rattle.ed_group.specs.declared.counts.Counts.{Counts};
 ghost use Rattle.ed_group.specs.declared.held.Held.{Held};
 ghost use Rattle.ed_group.specs.Answers.{Refuses, edit_fault, edit_landed};
-ghost use Rattle.ed_group.specs.Editing.{HasBegunEdit, carried_fault, told_fault};
+ghost use Rattle.ed_group.specs.Begins.{LeadsTo};
+ghost use Rattle.ed_group.specs.Editing.{HasBegunEdit, told_fault};
 ghost use Rattle.ed_group.specs.Group.{IsPlanned, outcome};
 ghost use Rattle.ed_group.specs.Kept.{IsKept};
 ghost use Rattle.ed_group.specs.Landing.{CanLand};
 ghost use Rattle.ed_group.specs.Moves.{move_seen};
 ghost use Rattle.ed_group.specs.Seen.{known, stock};
 
-use crate::climbing::{add, climb};
-use crate::counts::Counts;
+use crate::beginning::FirstMoves;
+use crate::climbing::add;
 use crate::fault::PlanFault;
 use crate::group::Group;
-use crate::grouping::group_of;
+use crate::grouping::group_from;
 use crate::held::Held;
 use crate::landing::landing;
 use crate::moves::{Move, Planned};
@@ -29,7 +31,6 @@ use ed_buffer::BaseFault;
 use ed_callbacks::Hooks;
 use ed_graph::Graph;
 use ed_members::SourceStep;
-use ed_project::ProjectionFault;
 use std::alloc::Global;
 
 /// A fault of a base as it is told.
@@ -71,54 +72,97 @@ fn begin(
     }
 }
 
-/// The fault of a projection on the way as it is told.
-pub fn carried(fault: ProjectionFault) -> PlanFault
-    ensures { result ≡ carried_fault fault }
+/// The group's own beginning where the changes do nothing: no version.
+///
+/// # Errors
+///
+/// Memory was refused.
+fn nothing(alloc: Global, graph: &Graph) -> Result<FirstMoves, PlanFault>
+    ensures fault { Refuses None result }
+    ensures graph { IfOk result (λ f. f.graph ≡ graph.now) }
+    ensures moves { IfOk result (λ f. f.moves.items ≡ []) }
+    ensures steps { IfOk result (λ f. f.steps.items ≡ []) }
+    ensures turned { IfOk result (λ f. f.turned ≡ None) }
+    ensures members { IfOk result (λ f. f.members ≡ None) }
 {
-    match fault {
-        ProjectionFault::Units { count } => PlanFault::Refused(Refusal::Limit {
-            which: Which::Units,
-            count,
-        }),
-        ProjectionFault::OutOfMemory => PlanFault::OutOfMemory,
-    }
+    Ok(FirstMoves {
+        graph: graph.share()?,
+        moves: Vec::new(alloc),
+        steps: Vec::new(alloc),
+        turned: None,
+        members: None,
+    })
 }
 
-/// Plans the group to which changes of a base lead: its own version, and then, in the order of the
-/// graph, one of each buffer that stands over a buffer with a new version.
-fn edited(
+/// The version of a base to which changes lead, as the beginning of a group.
+///
+/// # Errors
+///
+/// A region denies a change, or else the text would have more than 2^22 units, or memory was refused.
+fn changed(
     alloc: Global,
     hooks: &Hooks,
     buffers: &mut [Held],
     graph: &Graph,
-    counts: &Counts,
     buffer: BufferNo,
     changes: &Changes,
-) -> Result<Group, PlanFault>
-    requires kept { IsKept (map known buffers.old) graph.now counts.now }
+) -> Result<FirstMoves, PlanFault>
+    requires kept { (counts : Counts) × IsKept (map known buffers.old) graph.now counts }
     requires there { buffer < count (stock buffers.old) }
     requires base { is_carrier (record_now (stock buffers.old) buffer) ≡ false }
     requires from { changes.now.old_len ≡ length (text_now (stock buffers.old) buffer) }
     requires put_in { inserted_len changes.now ≤ 2 ^ 27 }
     requires some { 0 < length changes.now.changes }
     ensures same { map known buffers.new ≡ map known buffers.old }
-    ensures fault { Refuses (edit_fault (hook_table hooks.now) (stock buffers.old) buffer changes.now) result }
-    ensures planned { IfOk result (IsPlanned buffers.new) }
-    ensures outcome { IfOk result (λ g. outcome (stock buffers.old) g ≡ (edit_landed (stock buffers.old) buffer changes.now).stock) }
-    ensures versions { IfOk result (λ g. g.versions ≡ versions_made (edit_landed (stock buffers.old) buffer changes.now)) }
+    ensures fault { MatchResult result (λ f. Unit {0}) (λ e. Refuses {X = Unit {0}} (edit_fault (hook_table hooks.now) (stock buffers.old) buffer changes.now) (Err e)) }
+    ensures leads { IfOk result (LeadsTo buffers.new (edit_fault (hook_table hooks.now) (stock buffers.old) buffer changes.now) (edit_landed (stock buffers.old) buffer changes.now)) }
 {
-    // The list is looked at for what is known of its form.
+    // The list and the order are looked at for what is known of their form.
     let _normal = changes.as_slice();
-    let order = graph.order();
+    let _order = graph.order();
+    let graph = graph.share()?;
     let mut moves = Vec::new(alloc);
     let mut steps = Vec::new(alloc);
     begin(
         alloc, hooks, buffers, buffer, changes, &mut moves, &mut steps,
     )?;
-    if let Err(fault) = climb(alloc, buffers, order, &mut moves, &mut steps) {
-        return Err(carried(fault));
+    Ok(FirstMoves {
+        graph,
+        moves,
+        steps,
+        turned: None,
+        members: None,
+    })
+}
+
+/// The beginning of a group to which changes of a base lead.
+///
+/// # Errors
+///
+/// A region denies a change, or else the text would have more than 2^22 units, or memory was refused.
+fn edited(
+    alloc: Global,
+    hooks: &Hooks,
+    buffers: &mut [Held],
+    graph: &Graph,
+    buffer: BufferNo,
+    changes: &Changes,
+) -> Result<FirstMoves, PlanFault>
+    requires kept { (counts : Counts) × IsKept (map known buffers.old) graph.now counts }
+    requires there { buffer < count (stock buffers.old) }
+    requires base { is_carrier (record_now (stock buffers.old) buffer) ≡ false }
+    requires from { changes.now.old_len ≡ length (text_now (stock buffers.old) buffer) }
+    requires put_in { inserted_len changes.now ≤ 2 ^ 27 }
+    ensures same { map known buffers.new ≡ map known buffers.old }
+    ensures fault { MatchResult result (λ f. Unit {0}) (λ e. Refuses {X = Unit {0}} (edit_fault (hook_table hooks.now) (stock buffers.old) buffer changes.now) (Err e)) }
+    ensures leads { IfOk result (LeadsTo buffers.new (edit_fault (hook_table hooks.now) (stock buffers.old) buffer changes.now) (edit_landed (stock buffers.old) buffer changes.now)) }
+{
+    if changes.count() == 0 {
+        // The order is looked at for what is known of the graph's form.
+        let _order = graph.order();
+        return nothing(alloc, graph);
     }
-    group_of(alloc, counts, graph.share()?, moves, None, None)
+    changed(alloc, hooks, buffers, graph, buffer, changes)
 }
 
 impl Stock {
@@ -147,18 +191,7 @@ impl Stock {
         ensures outcome { IfOk result (λ g. outcome (stock self.old) g ≡ (edit_landed (stock self.old) b changes.now).stock) }
         ensures versions { IfOk result (λ g. g.versions ≡ versions_made (edit_landed (stock self.old) b changes.now)) }
     {
-        if changes.count() == 0 {
-            let graph = self.graph.share()?;
-            return group_of(alloc, &self.counts, graph, Vec::new(alloc), None, None);
-        }
-        edited(
-            alloc,
-            hooks,
-            &mut self.buffers,
-            &self.graph,
-            &self.counts,
-            b,
-            changes,
-        )
+        let first = edited(alloc, hooks, &mut self.buffers, &self.graph, b, changes)?;
+        group_from(alloc, &mut self.buffers, &self.counts, first)
     }
 }

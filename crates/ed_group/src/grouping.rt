@@ -1,17 +1,29 @@
 //! The group of versions that were planned.
-ghost use Rattle.std.specs.Prelude.{◌≡◌, None, IfOk, map};
+ghost use Rattle.std.specs.Prelude.{◌≡◌, ℕ, List, None, IfOk, map};
+ghost use Rattle.ed_base.specs.Numbers.{first_some};
+ghost use Rattle.ed_stock.specs.Limits.{stock_limits};
+ghost use Rattle.ed_stock.specs.Versions.{versions_made};
 ghost use Rattle.ed_group.specs.Answers.{Refuses};
+ghost use Rattle.ed_group.specs.Begins.{CanBegin, landed_from};
 ghost use Rattle.ed_group.specs.Counted.{counts_after, told};
+ghost use Rattle.ed_group.specs.Editing.{carried_fault};
+ghost use Rattle.ed_group.specs.Group.{IsPlanned, outcome};
+ghost use Rattle.ed_group.specs.Kept.{IsKept};
 ghost use Rattle.ed_group.specs.Limited.{limit_of};
+ghost use Rattle.ed_group.specs.Seen.{known, stock};
 
 use crate::adding_up::{counts_after, versions_of};
+use crate::beginning::FirstMoves;
+use crate::climbing::climb;
 use crate::counts::Counts;
 use crate::fault::PlanFault;
 use crate::group::Group;
+use crate::held::Held;
 use crate::limits::limit;
 use crate::moves::Move;
-use ed_base::{BufferNo, Refusal};
+use ed_base::{BufferNo, Refusal, Which};
 use ed_graph::Graph;
+use ed_project::ProjectionFault;
 use std::alloc::Global;
 
 /// The group of these versions, where the numbers of the stock don't pass their limits with them, and
@@ -20,7 +32,7 @@ use std::alloc::Global;
 /// # Errors
 ///
 /// A limit is passed, or memory was refused.
-pub fn group_of(
+fn group_of(
     alloc: Global,
     counts: &Counts,
     graph: Graph,
@@ -47,4 +59,50 @@ pub fn group_of(
         counts,
         versions,
     })
+}
+
+/// The fault of a projection on the way as it is told.
+fn carried(fault: ProjectionFault) -> PlanFault
+    ensures { result ≡ carried_fault fault }
+{
+    match fault {
+        ProjectionFault::Units { count } => PlanFault::Refused(Refusal::Limit {
+            which: Which::Units,
+            count,
+        }),
+        ProjectionFault::OutOfMemory => PlanFault::OutOfMemory,
+    }
+}
+
+/// The group that begins with these versions: in the order of the graph, one of each buffer follows
+/// that stands over a buffer with a new version.
+///
+/// # Errors
+///
+/// A limit is passed, or memory was refused.
+pub fn group_from(
+    alloc: Global,
+    buffers: &mut [Held],
+    counts: &Counts,
+    first: FirstMoves,
+) -> Result<Group, PlanFault>
+    requires kept { (graph : List (List ℕ)) × IsKept (map known buffers.old) graph counts.now }
+    requires begun { CanBegin buffers.old first }
+    ensures same { map known buffers.new ≡ map known buffers.old }
+    ensures fault { Refuses (first_some (stock_limits (landed_from (stock buffers.old) first).stock)) result }
+    ensures planned { IfOk result (IsPlanned buffers.new) }
+    ensures outcome { IfOk result (λ g. outcome (stock buffers.old) g ≡ (landed_from (stock buffers.old) first).stock) }
+    ensures versions { IfOk result (λ g. g.versions ≡ versions_made (landed_from (stock buffers.old) first)) }
+{
+    let FirstMoves {
+        graph,
+        mut moves,
+        mut steps,
+        turned,
+        members,
+    } = first;
+    if let Err(fault) = climb(alloc, buffers, graph.order(), &mut moves, &mut steps) {
+        return Err(carried(fault));
+    }
+    group_of(alloc, counts, graph, moves, turned, members)
 }

@@ -3,6 +3,7 @@
 
 mod adding;
 mod adding_up;
+mod beginning;
 mod climbing;
 mod counts;
 mod editing;

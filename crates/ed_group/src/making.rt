@@ -3,7 +3,7 @@ ghost use Rattle.std.specs.Prelude.{◌≡◌, ◌≢◌, ℕ, List, length, map
 ghost use Rattle.std.specs.Option.{option_map_or};
 ghost use Rattle.std.specs.List.{AllByRecursion as Each};
 ghost use Rattle.ed_group.specs.Group.{IsPlanned, IsProjection, MayTurn, known_grown, known_made, known_moved, known_turned, outcome, set_known};
-ghost use Rattle.ed_group.specs.Laws.{CurrentVector, OneVector, RecordsStay};
+ghost use Rattle.ed_risen.specs.Laws.{CurrentVector, OneVector, RecordsStay};
 ghost use Rattle.ed_group.specs.Moves.{AreApart, CanMake, IsPlannedAt};
 ghost use Rattle.ed_group.specs.Seen.{known, stock};
 

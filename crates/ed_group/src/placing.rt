@@ -9,7 +9,7 @@ ghost use Rattle.ed_group.specs.declared.fault.PlanFault.{PlanFault};
 use crate::fault::PlanFault;
 use ed_base::{BufferNo, Member, Refusal};
 use ed_graph::{Graph, LinkFault};
-use ed_members::{MemberFault, Members, are_short};
+use ed_members::{MemberFault, Members};
 use std::alloc::Global;
 
 /// Why members can't stand together, as it is told.
@@ -25,8 +25,7 @@ fn told(fault: MemberFault) -> PlanFault
     }
 }
 
-/// These members, over sources of these lengths. More than 2^32 of them, or of their units, count
-/// as want of memory.
+/// These members, over sources of these lengths.
 ///
 /// # Errors
 ///
@@ -40,9 +39,6 @@ pub fn joined(
     ensures members { IfOk result (λ m. m ≡ list.items) }
     ensures few { IfOk result (λ m. length m < 2 ^ 32) }
 {
-    if list.len() >= u32::MAX as usize || !are_short(&list) {
-        return Err(PlanFault::OutOfMemory);
-    }
     match Members::of(alloc, list, lengths) {
         Ok(members) => Ok(members),
         Err(fault) => Err(told(fault)),

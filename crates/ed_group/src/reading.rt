@@ -9,7 +9,7 @@ ghost use Rattle.ed_stock.specs.Limits.{stock_limits};
 ghost use Rattle.ed_stock.specs.Stock.{buffer, count, now, record_now, reiterated, text_at, text_now};
 ghost use Rattle.ed_track.specs.Linked.{AreLinked, len_after, len_before};
 ghost use Rattle.ed_group.specs.Answers.{members_now};
-ghost use Rattle.ed_group.specs.Laws.{CurrentVector, OneVector};
+ghost use Rattle.ed_risen.specs.Laws.{CurrentVector, OneVector};
 ghost use Rattle.ed_group.specs.Seen.{known, last_of, reiterated_of, stock, text_of};
 
 use crate::held::Held;

@@ -6,7 +6,7 @@ ghost use Rattle.ed_layers.specs.Records.{is_carrier};
 ghost use Rattle.ed_readonly.specs.LiveRegions.{limit_passed, limit_told};
 ghost use Rattle.ed_stock.specs.Stock.{buffer, count, record_now, text_now, with_buffer};
 ghost use Rattle.ed_group.specs.Asking.{IsBase, regions_of, with_region, without_region, zoned};
-ghost use Rattle.ed_group.specs.Laws.{RecordsStay};
+ghost use Rattle.ed_risen.specs.Laws.{RecordsStay};
 ghost use Rattle.ed_group.specs.Seen.{known, stock, text_of};
 
 use crate::held::Held;

@@ -4,7 +4,7 @@ ghost use Rattle.std.specs.List.{list_any};
 ghost use Rattle.ed_base.specs.ChangeList.{step};
 ghost use Rattle.ed_members.specs.Steps.{step_seen};
 ghost use Rattle.ed_group.specs.Moves.{move_of, snapshot_after, snapshot_now};
-ghost use Rattle.ed_group.specs.Rising.{plain};
+ghost use Rattle.ed_risen.specs.Rising.{plain};
 
 use crate::held::Held;
 use crate::moves::Move;

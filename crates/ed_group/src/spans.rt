@@ -1,21 +1,22 @@
 //! Members of projections that are replaced, planned.
-ghost use Rattle.std.specs.Prelude.{◌≡◌, ◌+◌, ◌<◌, ◌≤◌, true, length, map, slice_get, All, IfOk, Some};
+ghost use Rattle.std.specs.Prelude.{◌≡◌, ◌+◌, ◌<◌, ◌≤◌, true, length, map, slice_get, All, Err, IfOk, MatchResult, Some};
 ghost use Rattle.ed_layers.specs.Records.{is_carrier};
 ghost use Rattle.ed_stock.specs.Making.{spans_set};
 ghost use Rattle.ed_stock.specs.Stock.{count, record_now};
 ghost use Rattle.ed_stock.specs.Versions.{versions_made};
 ghost use Rattle.ed_group.specs.Answers.{LiesIn, Refuses, members_now, spans_fault};
+ghost use Rattle.ed_group.specs.Begins.{LeadsTo};
+ghost use Rattle.ed_group.specs.declared.counts.Counts.{Counts};
 ghost use Rattle.ed_group.specs.Group.{IsPlanned, IsProjection, outcome};
 ghost use Rattle.ed_group.specs.Kept.{IsKept};
 ghost use Rattle.ed_group.specs.declared.held.Held.{Held};
 ghost use Rattle.ed_group.specs.Seen.{known, stock};
 
-use crate::climbing::{add, climb};
-use crate::counts::Counts;
-use crate::editing::carried;
+use crate::beginning::FirstMoves;
+use crate::climbing::add;
 use crate::fault::PlanFault;
 use crate::group::Group;
-use crate::grouping::group_of;
+use crate::grouping::group_from;
 use crate::held::Held;
 use crate::limits::members_limit;
 use crate::moves::Planned;
@@ -43,36 +44,37 @@ fn may_turn(buffers: &[Held], buffer: BufferNo) -> bool
     can_turn(&buffers[buffer.0 as usize])
 }
 
-/// Plans the group to which replaced members of a projection lead: its own version, and then, in the
-/// order of the graph, one of each buffer that stands over a buffer with a new version.
+/// The beginning of a group to which replaced members of a projection lead: its own version.
+///
+/// # Errors
+///
+/// Members don't cover their sources or conflict, a source stands on the projection, buffers would be
+/// stacked too high, the text would have more than 2^22 units, or memory was refused.
 fn replaced(
     alloc: Global,
     buffers: &mut [Held],
     graph: &Graph,
-    counts: &Counts,
     buffer: BufferNo,
     first: u32,
     removed: u32,
     added: Vec<Member>,
-) -> Result<Group, PlanFault>
-    requires kept { IsKept (map known buffers.old) graph.now counts.now }
+) -> Result<FirstMoves, PlanFault>
+    requires kept { (counts : Counts) × IsKept (map known buffers.old) graph.now counts }
     requires there { buffer < count (stock buffers.old) }
     requires projection { is_carrier (record_now (stock buffers.old) buffer) ≡ true }
     requires part { first + removed ≤ length (members_now (stock buffers.old) buffer) }
     requires inside { All (LiesIn (stock buffers.old)) added.items }
     ensures same { map known buffers.new ≡ map known buffers.old }
-    ensures fault { Refuses (spans_fault (stock buffers.old) buffer first removed added.items) result }
-    ensures planned { IfOk result (IsPlanned buffers.new) }
-    ensures outcome { IfOk result (λ g. outcome (stock buffers.old) g ≡ (spans_set (stock buffers.old) buffer first removed added.items).stock) }
-    ensures versions { IfOk result (λ g. g.versions ≡ versions_made (spans_set (stock buffers.old) buffer first removed added.items)) }
+    ensures fault { MatchResult result (λ f. Unit {0}) (λ e. Refuses {X = Unit {0}} (spans_fault (stock buffers.old) buffer first removed added.items) (Err e)) }
+    ensures leads { IfOk result (LeadsTo buffers.new (spans_fault (stock buffers.old) buffer first removed added.items) (spans_set (stock buffers.old) buffer first removed added.items)) }
 {
     if !may_turn(buffers, buffer) {
         return Err(PlanFault::OutOfMemory);
     }
     // The order is looked at for what is known of the graph's form.
     let _order = graph.order();
-    let (linked, next) = begun(alloc, buffers, graph, buffer, first, removed, added)?;
-    let most = members_limit(u64::from(next.members().count()));
+    let (graph, next) = begun(alloc, buffers, graph, buffer, first, removed, added)?;
+    let members = members_limit(u64::from(next.members().count()));
     let mut moves = Vec::new(alloc);
     let mut steps = Vec::new(alloc);
     add(
@@ -82,10 +84,13 @@ fn replaced(
         &mut moves,
         &mut steps,
     )?;
-    if let Err(fault) = climb(alloc, buffers, linked.order(), &mut moves, &mut steps) {
-        return Err(carried(fault));
-    }
-    group_of(alloc, counts, linked, moves, Some(buffer), most)
+    Ok(FirstMoves {
+        graph,
+        moves,
+        steps,
+        turned: Some(buffer),
+        members,
+    })
 }
 
 impl Stock {
@@ -116,15 +121,15 @@ impl Stock {
         ensures outcome { IfOk result (λ g. outcome (stock self.old) g ≡ (spans_set (stock self.old) b first removed members.items).stock) }
         ensures versions { IfOk result (λ g. g.versions ≡ versions_made (spans_set (stock self.old) b first removed members.items)) }
     {
-        replaced(
+        let first = replaced(
             alloc,
             &mut self.buffers,
             &self.graph,
-            &self.counts,
             b,
             first,
             removed,
             members,
-        )
+        )?;
+        group_from(alloc, &mut self.buffers, &self.counts, first)
     }
 }

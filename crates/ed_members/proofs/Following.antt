@@ -27,7 +27,7 @@ first_rises a b before = elim before [ inl l ↦ omega arith | inr e ↦ omega (
 pub source_rises : (ms : List Member) (order : List ℕ) (p q : ℕ) → AreSorted ms order → p ≤ q → q < length order → source_at ms (slice_index order p) ≤ source_at ms (slice_index order q)
 source_rises ms order p q sorted le below = elim (cases_lt p q) [
   | inl l ↦
-      (let before : Precedes (key_of (slice_get ms (slice_index order p)) (slice_index order p)) (key_of (slice_get ms (slice_index order q)) (slice_index order q)) = sorted p q l below in
+      (let before : Precedes (key_of (slice_get ms (slice_index order p)) (slice_index order p)) (key_of (slice_get ms (slice_index order q)) (slice_index order q)) = sorted.each p q l below in
       let r : (key_of (slice_get ms (slice_index order p)) (slice_index order p)).0 ≤ (key_of (slice_get ms (slice_index order q)) (slice_index order q)).0 = first_rises _ _ before in
       omega (arith, key_first (slice_get ms (slice_index order p)) (slice_index order p), key_first (slice_get ms (slice_index order q)) (slice_index order q)))
   | inr g ↦ (let e : p ≡ q = omega arith in subst (λ (x : ℕ). source_at ms (slice_index order p) ≤ source_at ms (slice_index order x)) e (omega arith))
@@ -95,4 +95,4 @@ walked_more ms held order at at' nexts carried i s next start sorted w down is b
   where
     apart : (p : ℕ) → at' < p → p < length order → slice_index order p ≡ slice_index order at' → ⊥
     apart p m p_below e = never (key_of (slice_get ms (slice_index order at')) (slice_index order at'))
-        (subst (λ (x : ℕ). Precedes (key_of (slice_get ms (slice_index order at')) (slice_index order at')) (key_of (slice_get ms x) x)) e (sorted at' p m p_below))
+        (subst (λ (x : ℕ). Precedes (key_of (slice_get ms (slice_index order at')) (slice_index order at')) (key_of (slice_get ms x) x)) e (sorted.each at' p m p_below))

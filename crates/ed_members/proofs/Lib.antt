@@ -1,7 +1,7 @@
 pub mod Bools
 pub mod Places
 pub mod Permuted
-pub mod Standing
+pub mod Clear
 pub mod Indices
 pub mod Ranges
 pub mod Pairs
@@ -9,6 +9,7 @@ pub mod Keeping
 pub mod Putting
 pub mod Sorting
 pub mod Following
+pub mod Sweeping
 pub mod NextStarts
 pub mod After
 pub mod Within

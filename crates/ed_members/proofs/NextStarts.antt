@@ -234,7 +234,7 @@ module _ (ms : List Member) (order : List ℕ) (sorted : AreSorted ms order) (pe
   stands_at p q source x y mode mode' l below at at' =
       let before : Precedes (key_of (Some (Member.Tracked source x mode)) (slice_index order p)) (key_of (Some (Member.Tracked source y mode')) (slice_index order q)) =
       subst (λ (o : Option Member). Precedes (key_of (Some (Member.Tracked source x mode)) (slice_index order p)) (key_of o (slice_index order q))) at'
-      (subst (λ (o : Option Member). Precedes (key_of o (slice_index order p)) (key_of (slice_get ms (slice_index order q)) (slice_index order q))) at (sorted p q l below)) in
+      (subst (λ (o : Option Member). Precedes (key_of o (slice_index order p)) (key_of (slice_get ms (slice_index order q)) (slice_index order q))) at (sorted.each p q l below)) in
       elim before [ inl m ↦ absurd (omega arith) | inr e ↦ e.1 ]
 
   -- what comes after in the order stands at a later position

@@ -36,8 +36,8 @@ pub record PlaceKept (members : List Member) (ds : List ℕ) (i : ℕ) (m : Memb
   pub len : member_len m ≡ (placement members i).len
   pub within : slice_index ds i + member_len m ≤ members_len members
 
-pub place_kept : (ms self : List Member) (starts ds : List ℕ) (total i : ℕ) (m : Member) → IsKept ms starts total → ms ≡ self → ds ≡ starts → i < length self → m ≡ get_or self i m → PlaceKept self ds i m
-place_kept ms self starts ds total i m k e d h read =
+pub place_kept : (ms self : List Member) (starts ds : List ℕ) (total i : ℕ) (m : Member) (kept_order : List ℕ) → IsKept ms starts total kept_order → ms ≡ self → ds ≡ starts → i < length self → m ≡ get_or self i m → PlaceKept self ds i m
+place_kept ms self starts ds total i m kept_order k e d h read =
     let same : ds ≡ starts_from 0 self = d ∙ (k.starts ∙ ap (starts_from 0) e) in
     let long : length ds ≡ length self = ap length same ∙ length-starts_from self 0 in
     let begins : slice_index ds i ≡ 0 + sum_by member_len (take i self) = ap (λ xs. slice_index xs i) same ∙ start_at self 0 i h in
@@ -50,8 +50,8 @@ place_kept ms self starts ds total i m k e d h read =
       within = omega arith;
     }
 
-pub there_kept : (ms self : List Member) (starts ds : List ℕ) (total i : ℕ) → IsKept ms starts total → ms ≡ self → ds ≡ starts → i < length self → i < length ds
-there_kept ms self starts ds total i k e d h =
+pub there_kept : (ms self : List Member) (starts ds : List ℕ) (total i : ℕ) (kept_order : List ℕ) → IsKept ms starts total kept_order → ms ≡ self → ds ≡ starts → i < length self → i < length ds
+there_kept ms self starts ds total i kept_order k e d h =
     let long : length ds ≡ length self = ap length (d ∙ (k.starts ∙ ap (starts_from 0) e)) ∙ length-starts_from self 0 in
     omega arith
 

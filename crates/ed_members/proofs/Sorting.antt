@@ -1,5 +1,5 @@
 -- Indices that are sorted by the keys of their members.
-use Rattle.std.proofs.Common.{◌≡◌, ◌≢◌, ℕ, zero, suc, ◌+◌, ◌<◌, true, false, inl, inr, List, [], ◌∷◌, length, is_lt, Ordering, Less, Equal, Greater, Option, Some, None, refl, sym, ◌∙◌, arith}
+use Rattle.std.proofs.Common.{◌≡◌, ◌≢◌, ℕ, zero, suc, ◌+◌, ◌<◌, true, false, inl, inr, List, [], ◌∷◌, length, get_or, subst, is_lt, Ordering, Less, Equal, Greater, Option, Some, None, refl, sym, ◌∙◌, arith}
 use Rattle.std.specs.Prelude.{nat_eq, slice_get, slice_index, IsPermutation}
 use Rattle.std.specs.Cmp.{IsTotalOrder}
 use Rattle.std.specs.List.{AllByRecursion, IsDistinct, range_with_len}
@@ -8,6 +8,7 @@ use Rattle.std.specs.Ordering.{nat_cmp, ordering_then}
 use Rattle.std.proofs.lemmas.Bool.{cases_lt, cases_eq, ne_eqb, eq-eqb, lt-ltb}
 use Rattle.std.proofs.lemmas.Bool.Decides.{nat_tests}
 use Rattle.std.proofs.lemmas.Cmp.{on_total, then_total, nat_cmp_total}
+use Rattle.std.proofs.lemmas.List.{get_or_default}
 use Rattle.std.proofs.lemmas.List.Sorted.{ranks_by, sorted_far}
 use Rattle.std.proofs.lemmas.Map.Keys.{IsDistinct-IsPermutation}
 use Rattle.ed_base.specs.declared.piece.Member.{Member}
@@ -98,10 +99,27 @@ key_last ms i = last_is (slice_get ms i)
     last_is (Some (Member.Tracked s b m)) = refl
 
 pub sorted_keys : (ms : List Member) (order : List ℕ) → IsPermutation (places (length ms)) order → IsSortedByKey (λ i. key_of (slice_get ms i) i) key_cmp order → AreSorted ms order
-sorted_keys ms order permuted up = λ p q l below.
-    let key : ℕ → Key = λ i. key_of (slice_get ms i) i in
-    let distinct : IsDistinct nat_eq order = IsDistinct-IsPermutation nat_eq eq_flips (places (length ms)) order permuted (range_distinct 0 (length ms)) in
-    let far : is_lt (key_cmp (key_of (slice_get ms (slice_index order q)) (slice_index order q)) (key_of (slice_get ms (slice_index order p)) (slice_index order p))) ≡ false =
-    sorted_far (λ x y. is_lt (key_cmp (key_of (slice_get ms x) x) (key_of (slice_get ms y) y))) (ranks_by key_total (λ i. key_of (slice_get ms i) i)) order up p q 0 (omega arith) below in
-    precedes (key_of (slice_get ms (slice_index order p)) (slice_index order p)) (key_of (slice_get ms (slice_index order q)) (slice_index order q)) far
-    (λ e. distinct_at order p q distinct l below (sym (key_last ms (slice_index order p)) ∙ (e ∙ key_last ms (slice_index order q))))
+sorted_keys ms order permuted up = record {
+  each = λ p q l below.
+      let key : ℕ → Key = λ i. key_of (slice_get ms i) i in
+      let distinct : IsDistinct nat_eq order = IsDistinct-IsPermutation nat_eq eq_flips (places (length ms)) order permuted (range_distinct 0 (length ms)) in
+      let far : is_lt (key_cmp (key_of (slice_get ms (slice_index order q)) (slice_index order q)) (key_of (slice_get ms (slice_index order p)) (slice_index order p))) ≡ false =
+      sorted_far (λ x y. is_lt (key_cmp (key_of (slice_get ms x) x) (key_of (slice_get ms y) y))) (ranks_by key_total (λ i. key_of (slice_get ms i) i)) order up p q 0 (omega arith) below in
+      precedes (key_of (slice_get ms (slice_index order p)) (slice_index order p)) (key_of (slice_get ms (slice_index order q)) (slice_index order q)) far
+      (λ e. distinct_at order p q distinct l below (sym (key_last ms (slice_index order p)) ∙ (e ∙ key_last ms (slice_index order q))));
+}
+
+-- ---- whether they are
+
+abbrev pub Rises : List Member → List ℕ → ℕ → Type 0
+Rises ms order k = (d : ℕ) → is_lt (key_cmp (key_of (slice_get ms (get_or order (k + 1) d)) (get_or order (k + 1) d)) (key_of (slice_get ms (get_or order k d)) (get_or order k d))) ≡ false
+
+pub rises_here : (ms : List Member) (order : List ℕ) (k : ℕ) (a b : Key) → k + 1 < length order → a ≡ key_of (slice_get ms (slice_index order (k + 1))) (slice_index order (k + 1)) → b ≡ key_of (slice_get ms (slice_index order k)) (slice_index order k)
+    → is_lt (key_cmp a b) ≡ false → Rises ms order k
+rises_here ms order k a b below is is' no_less = λ d.
+    let first : slice_index order (k + 1) ≡ get_or order (k + 1) d = get_or_default order (k + 1) 0 d below in
+    let second : slice_index order k ≡ get_or order k d = get_or_default order k 0 d (omega arith) in
+    subst (λ (i : ℕ). is_lt (key_cmp (key_of (slice_get ms i) i) (key_of (slice_get ms (get_or order k d)) (get_or order k d))) ≡ false) first
+    (subst (λ (i : ℕ). is_lt (key_cmp (key_of (slice_get ms (slice_index order (k + 1))) (slice_index order (k + 1))) (key_of (slice_get ms i) i)) ≡ false) second
+    (subst (λ (x : Key). is_lt (key_cmp (key_of (slice_get ms (slice_index order (k + 1))) (slice_index order (k + 1))) x) ≡ false) is'
+    (subst (λ (x : Key). is_lt (key_cmp x b) ≡ false) is no_less)))

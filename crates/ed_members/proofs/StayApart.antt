@@ -23,7 +23,7 @@ use Rattle.ed_members.proofs.Pairs.{Rises, Mem, mem_rise}
 use Rattle.ed_members.proofs.After.{length_after}
 use Rattle.ed_members.proofs.Putting.{below_at, read_at}
 use Rattle.ed_members.proofs.Ranges.{Ranges}
-use Rattle.ed_members.proofs.Standing.{in_either, no_first, kept_apart}
+use Rattle.ed_members.proofs.Clear.{in_either, no_first, kept_apart}
 use Rattle.ed_members.proofs.Within.{AllRise, least_is, empty_below}
 
 contains_in : {X : Type 0} (x : X) (xs : List X) → In x xs → Contains xs x

@@ -1,4 +1,4 @@
-pub mod Apart
+pub mod Reaches
 pub mod Faults
 pub mod Starts
 pub mod Rising

@@ -19,7 +19,7 @@ key_of (Some (Member.Tracked source bounds mode)) i = (source + 1, bounds.start,
 abbrev pub Precedes : Key → Key → Type 0
 Precedes a b = (a.0 < b.0) ⊎ ((a.0 ≡ b.0) × ((a.1 < b.1) ⊎ ((a.1 ≡ b.1) × ((a.2 < b.2) ⊎ ((a.2 ≡ b.2) × (a.3 < b.3))))))
 
--- the members with these indices, each before all that follow
-abbrev pub AreSorted : List Member → List ℕ → Type 0
-AreSorted members order = (p q : ℕ) → p < q → q < length order
-    → Precedes (key_of (slice_get members (slice_index order p)) (slice_index order p)) (key_of (slice_get members (slice_index order q)) (slice_index order q))
+-- The members with these indices, each before all that follow.
+pub record AreSorted (members : List Member) (order : List ℕ) : Type 0 where
+  pub each : (p q : ℕ) → p < q → q < length order
+      → Precedes (key_of (slice_get members (slice_index order p)) (slice_index order p)) (key_of (slice_get members (slice_index order q)) (slice_index order q))

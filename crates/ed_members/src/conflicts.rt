@@ -1,12 +1,17 @@
 //! Members of one source that can't stand together.
-ghost use Rattle.std.specs.Prelude.{◌≡◌, ◌+◌, ◌<◌, ◌≤◌, ◌^◌, length, drop, find, option_map, Some, slice_get, IfSome, nat_le};
+ghost use Rattle.std.specs.Prelude.{◌≡◌, ◌+◌, ◌<◌, ◌≤◌, ◌^◌, length, drop, find, option_map, None, Some, slice_get, IfErr, IfOk, IfSome, IsErrAnd, IsPermutation, MatchOption, nat_le};
 ghost use Rattle.std.specs.List.{enumerate_from};
+ghost use Rattle.ed_base.specs.Numbers.{places};
 ghost use Rattle.ed_base.specs.Spans.{end_of};
-ghost use Rattle.ed_layers.specs.Order.{conflict, first_conflict, in_order, stands_before};
+ghost use Rattle.ed_layers.specs.Order.{conflict, first_conflict, in_order, overlap_fault, stands_before};
 ghost use Rattle.ed_members.specs.Faults.{other_from};
+ghost use Rattle.ed_members.specs.Sorted.{AreSorted};
+ghost use Rattle.ed_members.specs.declared.fault.MemberFault.{MemberFault};
 
-use crate::apart::are_apart;
-use ed_base::{Member, Span, SpanMode};
+use crate::fault::MemberFault;
+use crate::sorted::sorted;
+use crate::sweeps::least_clashing;
+use ed_base::{Member, SharedList, Span, SpanMode};
 use std::alloc::Global;
 
 /// Whether the span ends no later than the other starts.
@@ -77,13 +82,15 @@ fn other_behind(members: &[Member], index: u32, member: &Member) -> Option<u32>
     None
 }
 
-/// The first member that conflicts with one behind it, and the first such one. It compares each
-/// two.
-fn first_pair(members: &[Member]) -> Option<(u32, u32)>
-    requires { length members.now < 2 ^ 32 }
+/// The first member that conflicts with one behind it, and the first such one, where none below this
+/// index does. It compares each from there on with all behind it.
+pub fn first_pair(members: &[Member], least: u32) -> Option<(u32, u32)>
+    requires few { length members.now < 2 ^ 32 }
+    requires within { least ≤ length members.now }
+    requires first { first_conflict (enumerate_from least (drop least members.now)) ≡ first_conflict (enumerate_from 0 members.now) }
     ensures { result ≡ first_conflict (enumerate_from 0 members.now) }
 {
-    for index in 0..members.len() as u32 {
+    for index in least..members.len() as u32 {
         let member = &members[index as usize];
         if let Some(other) = other_behind(members, index, member) {
             return Some((index, other));
@@ -92,14 +99,38 @@ fn first_pair(members: &[Member]) -> Option<(u32, u32)>
     None
 }
 
-/// The first member that conflicts with one behind it, and the first such one. Each two are
-/// compared only where a quick look finds members that don't stand apart, or wants memory.
-pub fn conflicting(alloc: Global, members: &[Member]) -> Option<(u32, u32)>
-    requires { length members.now < 2 ^ 32 }
+/// The first member that conflicts with one behind it, and the first such one, where this is the
+/// order of the members on their sources.
+pub fn conflicting(members: &[Member], order: &[u32]) -> Option<(u32, u32)>
+    requires few { length members.now < 2 ^ 32 }
+    requires all { IsPermutation (places (length members.now)) order.now }
+    requires sorted { AreSorted members.now order.now }
     ensures { result ≡ first_conflict (enumerate_from 0 members.now) }
 {
-    match are_apart(alloc, members) {
-        Ok(true) => None,
-        _ => first_pair(members),
+    first_pair(members, least_clashing(members, order))
+}
+
+/// The indices of the members in order on their sources, where none conflict.
+///
+/// # Errors
+///
+/// `Overlap` names the first member that conflicts with one behind it, and the first such one, exactly
+/// where there is one: where memory is refused for the order each two are compared. Else memory was
+/// refused.
+pub fn ordered(alloc: Global, members: &[Member]) -> Result<SharedList<u32>, MemberFault>
+    requires few { length members.now < 2 ^ 32 }
+    ensures fault { MatchOption (first_conflict (enumerate_from 0 members.now)) (IfErr result (λ e. e ≡ MemberFault.OutOfMemory)) (λ pair. IsErrAnd result (λ e. e ≡ MemberFault.Overlap pair.0 pair.1)) }
+    ensures apart { IfOk result (λ o. overlap_fault members.now ≡ None) }
+    ensures all { IfOk result (λ o. IsPermutation (places (length members.now)) o) }
+    ensures sorted { IfOk result (λ o. AreSorted members.now o) }
+{
+    let order = sorted(alloc, members);
+    let pair = match &order {
+        Ok(order) => conflicting(members, order),
+        Err(_) => first_pair(members, 0),
+    };
+    if let Some((index, other)) = pair {
+        return Err(MemberFault::Overlap { index, other });
     }
+    Ok(SharedList::of(alloc, order?)?)
 }

@@ -2,7 +2,6 @@
 //! source, which go along when their sources step.
 #![tactic(auto)]
 
-mod apart;
 mod conflicts;
 mod copies;
 mod fault;
@@ -14,6 +13,7 @@ mod nexts;
 mod sorted;
 mod starts;
 mod steps;
+mod sweeps;
 #[cfg(test)]
 mod tests;
 

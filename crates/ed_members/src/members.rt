@@ -1,21 +1,24 @@
 //! The members of a projection as a value.
-ghost use Rattle.std.specs.Prelude.{◌≡◌, ◌+◌, ◌<◌, ◌≤◌, ◌^◌, ◌⊎◌, length, None, Some, IfErr, IsErrAnd, IfOk, MatchOption, slice_get};
+ghost use Rattle.std.specs.Prelude.{◌≡◌, ◌+◌, ◌<◌, ◌≤◌, ◌^◌, ◌⊎◌, length, None, Some, IfErr, IsErrAnd, IfOk, IsPermutation, MatchOption, slice_get};
 ghost use Rattle.ed_layers.specs.Order.{overlap_fault};
 ghost use Rattle.ed_layers.specs.Records.{member_len, members_len, placement};
 ghost use Rattle.std.specs.List.{All};
 ghost use Rattle.ed_layers.specs.Bounds.{members_after};
 ghost use Rattle.ed_members.specs.Faults.{first_fault, len_in, refusal_of, replaced};
 ghost use Rattle.ed_members.specs.Moving.{EndsInOld, EndsInNew, OwnInside, OwnInOrder};
+ghost use Rattle.ed_base.specs.Numbers.{places};
+ghost use Rattle.ed_members.specs.Sorted.{AreSorted};
 ghost use Rattle.ed_members.specs.Steps.{steps_seen};
 
-use crate::conflicts::conflicting;
+use crate::conflicts::ordered;
 use crate::copies::put_copies;
 use crate::fault::MemberFault;
 use crate::modes::uncovered;
 use crate::moving::moved_members;
+use crate::sorted::sorted_after;
 use crate::starts::{are_short, len_of, starts_of};
 use crate::steps::SourceStep;
-use ed_base::{BufferNo, Member, OutOfMemory, Span};
+use ed_base::{BufferNo, Member, OutOfMemory, SharedList, Span};
 use std::alloc::Global;
 use std::marker::Model;
 
@@ -30,6 +33,7 @@ pub struct Members {
     list: Vec<Member>,
     starts: Vec<u32>,
     total: u32,
+    order: SharedList<u32>,
 }
 
 impl Model for Members {
@@ -41,39 +45,66 @@ impl Model for Members {
 
     ghost view = { λ m. m.list.items };
 
-    ghost invariant = { λ m. IsKept m.list.items m.starts.items m.total };
+    ghost invariant = { λ m. IsKept m.list.items m.starts.items m.total m.order };
 }
 
 impl Members {
-    /// These members. The lengths of the sources are listed once each, in units.
+    /// These members, and where each begins, beside their order on their sources.
     ///
     /// # Errors
     ///
-    /// `Mode` names the first inclusive member that doesn't cover its source, exactly where there
-    /// is one. Else `Overlap` names the first member that conflicts with one behind it, and the
-    /// first such one, exactly where there is one. Else memory may be refused.
-    pub fn of(
+    /// Memory was refused, or all members together have 2^32 units or more.
+    fn kept(
         alloc: Global,
         list: Vec<Member>,
-        source_len: &[(BufferNo, u32)],
-    ) -> Result<Members, MemberFault>
+        order: SharedList<u32>,
+    ) -> Result<Members, OutOfMemory>
         requires few { length list.items < 2 ^ 32 }
-        requires short { members_len list.items < 2 ^ 32 }
+        requires apart { overlap_fault list.items ≡ None }
+        requires all { IsPermutation (places (length list.items)) order }
+        requires sorted { AreSorted list.items order }
         ensures members { IfOk result (λ m. m ≡ list.items) }
-        ensures fault { MatchOption (first_fault (len_in source_len.now) list.items) (IfErr result (λ e. e ≡ MemberFault.OutOfMemory)) (λ r. IsErrAnd result (λ e. refusal_of e ≡ Some r)) }
+        ensures short { IfOk result (λ m. members_len m < 2 ^ 32) }
     {
-        if let Some(index) = uncovered(source_len, &list) {
-            return Err(MemberFault::Mode { index });
-        }
-        if let Some((index, other)) = conflicting(alloc, &list) {
-            return Err(MemberFault::Overlap { index, other });
+        if !are_short(&list) {
+            return Err(OutOfMemory);
         }
         let (starts, total) = starts_of(alloc, &list)?;
         Ok(Members {
             list,
             starts,
             total,
+            order,
         })
+    }
+
+    /// These members. The lengths of the sources are listed once each, in units.
+    ///
+    /// # Errors
+    ///
+    /// `Mode` names the first inclusive member that doesn't cover its source, exactly where there
+    /// is one. Else `Overlap` names the first member that conflicts with one behind it, and the
+    /// first such one, exactly where there is one. Else memory may be refused; all members together
+    /// having 2^32 units or more counts as that. 2^32 members or more aren't judged and count as want
+    /// of memory.
+    pub fn of(
+        alloc: Global,
+        list: Vec<Member>,
+        source_len: &[(BufferNo, u32)],
+    ) -> Result<Members, MemberFault>
+        ensures members { IfOk result (λ m. m ≡ list.items) }
+        ensures few { IfOk result (λ m. length m < 2 ^ 32) }
+        ensures short { IfOk result (λ m. members_len m < 2 ^ 32) }
+        ensures fault { MatchOption (first_fault (len_in source_len.now) list.items) (IfErr result (λ e. e ≡ MemberFault.OutOfMemory)) (λ r. IsErrAnd result (λ e. (e ≡ MemberFault.OutOfMemory) × (2 ^ 32 ≤ length list.items) ⊎ (refusal_of e ≡ Some r))) }
+    {
+        if list.len() > u32::MAX as usize {
+            return Err(MemberFault::OutOfMemory);
+        }
+        if let Some(index) = uncovered(source_len, &list) {
+            return Err(MemberFault::Mode { index });
+        }
+        let order = ordered(alloc, &list)?;
+        Ok(Members::kept(alloc, list, order)?)
     }
 
     /// These members, but with those of this list in place of `count` members from `first` on. What
@@ -92,8 +123,6 @@ impl Members {
         source_len: &[(BufferNo, u32)],
     ) -> Result<Members, MemberFault>
         requires there { first + count ≤ length self.now }
-        requires few { length (replaced self.now first count list.items) < 2 ^ 32 }
-        requires short { members_len (replaced self.now first count list.items) < 2 ^ 32 }
         ensures members { IfOk result (λ m. m ≡ replaced self.now first count list.items) }
         ensures fault { MatchOption (first_fault (len_in source_len.now) (replaced self.now first count list.items)) (IfErr result (λ e. e ≡ MemberFault.OutOfMemory)) (λ r. IsErrAnd result (λ e. (e ≡ MemberFault.OutOfMemory) ⊎ (refusal_of e ≡ Some r))) }
     {
@@ -122,16 +151,15 @@ impl Members {
         ensures members { IfOk result (λ m. m ≡ members_after me (steps_seen steps.now) self.now) }
         ensures within { IfOk result (λ m. All (EndsInNew (steps_seen steps.now)) m) }
     {
-        let list = moved_members(alloc, me, self.list.as_slice(), steps)?;
-        if !are_short(&list) {
-            return Err(OutOfMemory);
-        }
-        let (starts, total) = starts_of(alloc, &list)?;
-        Ok(Members {
-            list,
-            starts,
-            total,
-        })
+        let list = moved_members(
+            alloc,
+            me,
+            self.list.as_slice(),
+            self.order.as_slice(),
+            steps,
+        )?;
+        let order = sorted_after(alloc, &list, &self.order)?;
+        Members::kept(alloc, list, order)
     }
 
     /// The list of these members, but with those of the given list in place of `count` members from

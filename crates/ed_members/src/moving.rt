@@ -1,18 +1,19 @@
 //! Members after the steps of their sources.
-ghost use Rattle.std.specs.Prelude.{◌≡◌, None, ◌≤◌, ◌<◌, ◌^◌, length, IfOk};
+ghost use Rattle.std.specs.Prelude.{◌≡◌, None, ◌≤◌, length, IfOk, IsPermutation};
 ghost use Rattle.std.specs.List.{All};
 ghost use Rattle.ed_base.specs.ChangeList.{step};
+ghost use Rattle.ed_base.specs.Numbers.{places};
 ghost use Rattle.ed_base.specs.Spans.{end_of};
 ghost use Rattle.ed_layers.specs.Bounds.{members_after};
 ghost use Rattle.ed_layers.specs.Order.{overlap_fault};
 ghost use Rattle.ed_members.specs.Advance.{bounds_with, moved_by, step_index};
 ghost use Rattle.ed_members.specs.Moving.{EndsInOld, EndsInNew, OwnInside, OwnInOrder};
+ghost use Rattle.ed_members.specs.Sorted.{AreSorted};
 ghost use Rattle.ed_members.specs.Steps.{steps_seen};
 
 use crate::copies::copied;
 use crate::held::{Held, held_by, len_after, step_indices, step_of};
 use crate::nexts::next_starts;
-use crate::sorted::sorted;
 use crate::steps::SourceStep;
 use ed_base::{BufferNo, Changes, Member, OutOfMemory, PointMode, Span, SpanMode};
 use ed_track::point;
@@ -80,7 +81,7 @@ fn moved(
     }
 }
 
-/// The members after these steps of their sources.
+/// The members after these steps of their sources, where this is their order on the sources.
 ///
 /// # Errors
 ///
@@ -89,19 +90,20 @@ pub fn moved_members(
     alloc: Global,
     me: BufferNo,
     members: &[Member],
+    order: &[u32],
     steps: &[SourceStep],
 ) -> Result<Vec<Member>, OutOfMemory>
-    requires few { length members.now < 2 ^ 32 }
+    requires all { IsPermutation (places (length members.now)) order.now }
+    requires sorted { AreSorted members.now order.now }
     requires within { All (EndsInOld (steps_seen steps.now)) members.now }
     ensures members { IfOk result (λ v. v.items ≡ members_after me (steps_seen steps.now) members.now) }
     ensures apart { IfOk result (λ v. overlap_fault members.now ≡ None → OwnInside me (steps_seen steps.now) members.now → OwnInOrder me (steps_seen steps.now) members.now → overlap_fault v.items ≡ None) }
     ensures count { IfOk result (λ v. length v.items ≡ length members.now) }
     ensures within { IfOk result (λ v. All (EndsInNew (steps_seen steps.now)) v.items) }
 {
-    let order = sorted(alloc, members)?;
     let indices = step_indices(alloc, members, steps)?;
     let held = held_by(alloc, me, members, steps, &indices)?;
-    let nexts = next_starts(alloc, members, &order, &held)?;
+    let nexts = next_starts(alloc, members, order, &held)?;
     let mut list = Vec::new(alloc);
     for index in 0..members.len() {
         let member = &members[index];

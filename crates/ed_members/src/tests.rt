@@ -4,9 +4,10 @@ ghost use Rattle.std.specs.List.{All};
 ghost use Rattle.ed_members.specs.Moving.{EndsInOld};
 ghost use Rattle.ed_members.specs.Steps.{steps_seen};
 
-use crate::apart::are_apart;
 use crate::moving::moved_members;
+use crate::sorted::sorted;
 use crate::starts::starts_of;
+use crate::sweeps::least_clashing;
 use crate::{MemberFault, Members, Owned, OwnedRun, SourceStep, are_short};
 use ed_base::{BufferNo, Change, Changes, Member, OutOfMemory, Span, SpanMode, Units};
 use std::alloc::Global;
@@ -234,9 +235,9 @@ fn short_is_below_two_to_the_32(rt: HostRuntime) -> Result<(), Fail> {
     Ok(())
 }
 
-/// An answer of false would only cost time, so no clause forbids it.
+/// A lower index would only cost time, so no clause forbids it.
 #[test]
-fn the_quick_look_sees_that_members_stand_apart(rt: HostRuntime) -> Result<(), Fail> {
+fn the_sweeps_find_the_first_member_that_conflicts(rt: HostRuntime) -> Result<(), Fail> {
     let alloc = rt.alloc();
     let parts = [
         (Some(1), 0, 10, true),
@@ -249,7 +250,19 @@ fn the_quick_look_sees_that_members_stand_apart(rt: HostRuntime) -> Result<(), F
     ];
     let list = list_of(alloc, &parts)?;
     assert!(rt; list.len() < 100);
-    assert!(rt; are_apart(alloc, &list)?);
+    let order = sorted(alloc, &list)?;
+    assert_eq!(rt; least_clashing(&list, &order), 7);
+    let crossing = [
+        (Some(0), 0, 0, false),
+        (None, 0, 1, false),
+        (Some(0), 9, 1, false),
+        (Some(0), 0, 9, false),
+        (Some(0), 3, 0, false),
+    ];
+    let list = list_of(alloc, &crossing)?;
+    assert!(rt; list.len() < 100);
+    let order = sorted(alloc, &list)?;
+    assert_eq!(rt; least_clashing(&list, &order), 3);
     Ok(())
 }
 
@@ -366,7 +379,8 @@ fn tried_owning(
     if list.len() > 100 || !all_end_in(&step, &list) {
         return Err(MemberFault::OutOfMemory);
     }
-    Ok(moved_members(alloc, ME, &list, &[step])?)
+    let order = sorted(alloc, &list)?;
+    Ok(moved_members(alloc, ME, &list, &order, &[step])?)
 }
 
 /// Whether the list is this one.

@@ -1,17 +1,10 @@
--- The text of members over the texts of their sources.
-use Rattle.std.specs.Prelude.{◌≡◌, ℕ, ◌≤◌, List, [], ◌∷◌, length, map, flat_map, nat_eq, slice_range, Option, Some, None, MatchOption, unwrap_or, if◌then◌else◌}
+-- The texts of sources, as snapshots give them.
+use Rattle.std.specs.Prelude.{◌≡◌, ℕ, ◌≤◌, List, [], ◌∷◌, length, map, nat_eq, Option, Some, None, MatchOption, unwrap_or, if◌then◌else◌}
 use Rattle.ed_base.specs.declared.piece.Member.{Member}
 use Rattle.ed_base.specs.Spans.{end_of}
 use Rattle.ed_layers.specs.SourceStep.{SourceStep}
+pub use Rattle.ed_layers.specs.Texts.{member_text, text_over}
 use Rattle.ed_version.specs.declared.snapshot.Snapshot.{Snapshot}
-
--- a literal, or the part of the source's text between the bounds
-abbrev pub member_text : (ℕ → List ℕ) → Member → List ℕ
-member_text source_text (Member.Literal units) = units
-member_text source_text (Member.Tracked source bounds mode) = slice_range (source_text source) bounds.start (end_of bounds)
-
-abbrev pub text_over : (ℕ → List ℕ) → List Member → List ℕ
-text_over source_text members = flat_map (member_text source_text) members
 
 -- the text of a source among snapshots, and the versions that they are of
 abbrev pub found_text : List Snapshot → ℕ → Option (List ℕ)

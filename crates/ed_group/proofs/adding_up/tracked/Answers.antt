@@ -1,5 +1,5 @@
 use Rattle.std.proofs.Common.{◌+◌, ap, sym, ◌∙◌}
-use Rattle.ed_group.proofs.Tracked.{no_more, one_more}
+use Rattle.ed_risen.proofs.Tracked.{no_more, one_more}
 use Rattle.ed_group.proofs.adding_up.tracked.Goals as goal
 use Rattle.ed_group.proofs.adding_up.tracked.Goals.{then-is_tracked+in_ok-total, else-is_tracked}
 

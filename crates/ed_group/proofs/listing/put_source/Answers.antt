@@ -1,6 +1,6 @@
 use Rattle.std.proofs.Common.{◌∙◌, ap, sym}
 use Rattle.ed_base.specs.Numbers.{is_among}
-use Rattle.ed_group.proofs.Listed.{put_listed}
+use Rattle.ed_risen.proofs.Sources.{put_listed}
 use Rattle.ed_group.proofs.listing.put_source.Goals as goal
 
 pub returns-in_ok-push-in-Tracked : goal.returns-in_ok-push-in-Tracked

@@ -1,5 +1,5 @@
 use Rattle.std.proofs.Common.{ap, sym, ◌∙◌, ◌++◌, ◌∷◌, [], arith}
-use Rattle.ed_group.proofs.Lists.{places_push}
+use Rattle.ed_risen.proofs.Lists.{places_push}
 use Rattle.ed_group.proofs.reading.numbers_to.Goals as goal
 
 pub loop-number-preserved : goal.loop-number-preserved

@@ -5,7 +5,6 @@ use Rattle.std.proofs.lemmas.List.{get_or_read}
 use Rattle.ed_members.specs.Advance.{moved_by}
 use Rattle.ed_members.specs.declared.held.Held.{Held}
 use Rattle.ed_members.specs.Nexts.{next_in, source_at}
-use Rattle.ed_members.specs.Sorted.{AreSorted}
 use Rattle.ed_members.specs.Steps.{steps_seen}
 use Rattle.std.specs.List.{All, enumerate_from}
 use Rattle.ed_base.specs.declared.refusal.Refusal.{Refusal}
@@ -18,22 +17,18 @@ use Rattle.ed_members.proofs.Within.{after_within, all_rise}
 use Rattle.ed_members.proofs.After.{length_after, moved_more, moved_end}
 use Rattle.ed_members.proofs.moving.moved_members.Goals as goal
 
-pub next_starts-requires-clause-sorted : goal.next_starts-requires-clause-sorted
-next_starts-requires-clause-sorted c = subst (λ (o : List ℕ). AreSorted c.args.members.now o) (sym c.deref-2.ensures.value) c.in_ok-order.ensures.sorted
-
 pub loop-index-preserved : goal.loop-index-preserved
 loop-index-preserved c =
     let k : ℕ = c.loop-index.index in
     let held : List (Option Held) = c.in_ok-held.held.items in
     let nexts : List (Option ℕ) = c.in_ok-nexts.nexts.items in
-    let follow = subst (λ (o : List ℕ). (p : ℕ) → p < length o → get_or nexts (slice_index o p) None ≡ next_in c.args.members.now held (source_at c.args.members.now (slice_index o p)) (drop (p + 1) o)) c.deref-2.ensures.value
-    (subst (λ (h : List (Option Held)). (p : ℕ) → p < length c.deref-2.result.now → get_or nexts (slice_index c.deref-2.result.now p) None ≡ next_in c.args.members.now h (source_at c.args.members.now (slice_index c.deref-2.result.now p)) (drop (p + 1) c.deref-2.result.now)) c.deref-3.ensures.value
-    c.in_ok-nexts.ensures.each) in
+    let follow = subst (λ (h : List (Option Held)). (p : ℕ) → p < length c.args.order.now → get_or nexts (slice_index c.args.order.now p) None ≡ next_in c.args.members.now h (source_at c.args.members.now (slice_index c.args.order.now p)) (drop (p + 1) c.args.order.now)) c.deref-2.ensures.value
+    c.in_ok-nexts.ensures.each in
     let below : k < length c.args.members.now = c.loop-index-test.true in
     let held_at : c.index-in-loop-index.result.now ≡ get_or held k None = get_or_read held k c.index-in-loop-index.result.now (omega (arith, c.in_ok-held.ensures.held.long)) c.index-in-loop-index.ensures None in
     let next_at : c.index-in-loop-index-2.result.now ≡ get_or nexts k None = get_or_read nexts k c.index-in-loop-index-2.result.now (omega (arith, c.in_ok-nexts.ensures.long)) c.index-in-loop-index-2.ensures None in
     let pushed : c.push.new.self.items ≡ c.loop-index.list.items ++ c.in_ok-moved.field-0 ∷ [] = search rules in
-    moved_more c.args.me (steps_seen c.args.steps.now) c.args.members.now held nexts c.in_ok-order.order.items c.in_ok-held.ensures.held c.in_ok-order.ensures.sorted c.in_ok-order.ensures.all follow
+    moved_more c.args.me (steps_seen c.args.steps.now) c.args.members.now held nexts c.args.order.now c.in_ok-held.ensures.held c.requires.sorted c.requires.all follow
     k c.index-members-index.result c.in_ok-moved.field-0 c.loop-index.list.items c.push.new.self.items below c.index-members-index.is
     (c.in_ok-moved.ensures ∙ (ap (λ (h : Option Held). moved_by (steps_seen c.args.steps.now) h c.index-in-loop-index-2.result.now c.index-members-index.result) held_at ∙ ap (λ (n : Option ℕ). moved_by (steps_seen c.args.steps.now) (get_or held k None) n c.index-members-index.result) next_at))
     pushed c.loop-index.invariant
@@ -58,5 +53,5 @@ returns-clause-apart c = λ none inside order.
     (sym (moved_end c.args.me (steps_seen c.args.steps.now) c.args.members.now c.loop-index.list.items c.loop-index.index c.loop-index-test.false c.loop-index.invariant))
     (ap (option_map (λ (pair : ℕ × ℕ). Refusal.Overlap pair.0 pair.1))
     (apart_after c.args.me (steps_seen c.args.steps.now) c.args.members.now (all_rise c.args.steps.now c.in_ok-held.ensures.sound)
-    (λ source s is m has. next_known c.args.members.now c.in_ok-order.order.items c.in_ok-order.ensures.sorted c.in_ok-order.ensures.all c.in_ok-held.held.items c.args.me source (steps_seen c.args.steps.now) s is c.in_ok-held.ensures.held m has)
+    (λ source s is m has. next_known c.args.members.now c.args.order.now c.requires.sorted c.requires.all c.in_ok-held.held.items c.args.me source (steps_seen c.args.steps.now) s is c.in_ok-held.ensures.held m has)
     (map_none (λ (pair : ℕ × ℕ). Refusal.Overlap pair.0 pair.1) (first_conflict (enumerate_from 0 c.args.members.now)) none) inside order))

@@ -1,6 +1,6 @@
 -- One index more.
 use Rattle.std.proofs.Common.{◌≡◌, ◌∙◌, ◌++◌, ◌∷◌, [], ap, sym, rules}
-use Rattle.ed_members.proofs.Standing.{places_more}
+use Rattle.ed_members.proofs.Permuted.{places_more}
 use Rattle.ed_members.proofs.sorted.counted.Goals as goal
 
 pub loop-index-preserved : goal.loop-index-preserved

@@ -6,11 +6,11 @@ use Rattle.ed_members.proofs.members.Members.place.Goals as goal
 use Rattle.ed_members.proofs.members.Members.place.Goals.{After-len_of}
 
 pub bounds-starts-i : goal.bounds-starts-i
-bounds-starts-i c = there_kept c.self.inside.list.items c.args.self.now c.self.inside.starts.items c.as_slice-starts.result.now c.self.inside.total c.args.i c.self.invariant c.self.view_is c.as_slice-starts.ensures.value c.requires
+bounds-starts-i c = there_kept c.self.inside.list.items c.args.self.now c.self.inside.starts.items c.as_slice-starts.result.now c.self.inside.total c.args.i c.self.inside.order c.self.invariant c.self.view_is c.as_slice-starts.ensures.value c.requires
 
 kept : (c : After-len_of) → PlaceKept c.args.self.now c.as_slice-starts.result.now c.args.i c.index-members-i.result
 kept c =
-    place_kept c.self.inside.list.items c.args.self.now c.self.inside.starts.items c.as_slice-starts.result.now c.self.inside.total c.args.i c.index-members-i.result c.self.invariant c.self.view_is
+    place_kept c.self.inside.list.items c.args.self.now c.self.inside.starts.items c.as_slice-starts.result.now c.self.inside.total c.args.i c.index-members-i.result c.self.inside.order c.self.invariant c.self.view_is
     c.as_slice-starts.ensures.value c.requires
     (c.index-members-i.is ∙ ap (λ xs. get_or xs c.args.i c.index-members-i.result) (c.as_slice-members.ensures.value ∙ c.self.view_is))
 

@@ -1,0 +1,17 @@
+pub mod Lists
+pub mod FoundedLemmas
+pub mod Texts
+pub mod Growth
+pub mod Lengths
+pub mod RisingLemmas
+pub mod Settled
+pub mod Order
+pub mod Turns
+pub mod MemberCounts
+pub mod OneLimit
+pub mod Sources
+pub mod Tracked
+pub mod Counting
+pub mod Turning
+pub mod Starts
+pub mod Limits
