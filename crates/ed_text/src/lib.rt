@@ -18,4 +18,4 @@ pub use tree::TreeText;
 
 /// The representation of texts that is in use. Callers rely on nothing of it but `Text`, so that
 /// another one can take its place.
-pub type DocText = PlainText;
+pub type DocText = TreeText;

@@ -38,9 +38,8 @@ fn total_len(parts: &[PlainText]) -> usize
 }
 
 impl PlainText {
-    /// The units. Only this representation has them in one piece: code that is to work over every
-    /// text takes `Text::unit` and `Text::copy_out`.
-    pub fn as_slice(&self) -> &[Unit]
+    /// The units.
+    fn as_slice(&self) -> &[Unit]
         ensures { result.now ≡ self.now }
     {
         self.block.as_slice()
