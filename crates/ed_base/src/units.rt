@@ -1,5 +1,5 @@
 //! Texts as UTF-16 code units.
-ghost use Rattle.std.specs.Prelude.{◌≡◌, List, [], ◌∷◌, ◌++◌, OnOk, OnErr};
+ghost use Rattle.std.specs.Prelude.{◌≡◌, List, [], ◌∷◌, ◌++◌, take, OnOk, OnErr};
 
 use crate::memory::OutOfMemory;
 use std::alloc::Global;
@@ -63,6 +63,13 @@ impl Units {
     {
         self.items.extend_from_slice(units)?;
         Ok(())
+    }
+
+    /// Leaves the first `len` units; a text that has no more stays as it is.
+    pub fn truncate(&mut self, len: usize)
+        ensures { self.new ≡ take len self.old }
+    {
+        self.items.truncate(len);
     }
 
     /// The units, owned. Nothing is copied.

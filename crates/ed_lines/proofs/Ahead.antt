@@ -1,5 +1,5 @@
 -- The breaks of a text from a place on, and the lines that a pass has found up to it.
-use Rattle.std.proofs.Common.{◌≡◌, ℕ, suc, ◌+◌, ◌-◌, ◌<◌, ◌≤◌, Bool, true, false, cond, nat_eq, nat_lt, List, [], ◌∷◌, ◌++◌, length, get_or, Option, Some, None, refl, sym, ap, ◌∙◌, append_assoc, add-one, inl, inr, arith}
+use Rattle.std.proofs.Common.{◌≡◌, ℕ, zero, suc, ◌+◌, ◌-◌, ◌<◌, ◌≤◌, Bool, true, false, cond, nat_eq, nat_lt, List, [], ◌∷◌, ◌++◌, length, get_or, Option, Some, None, refl, sym, subst, ap, ◌∙◌, append_assoc, add-one, inl, inr, arith}
 use Rattle.std.specs.Prelude.{slice_get}
 use Rattle.std.specs.Option.{option_map_or}
 use Rattle.std.specs.List.{filter, range_with_len}
@@ -130,6 +130,23 @@ found_skip units found start at within none f = record {
   below = f.below;
   few = omega (arith, f.few);
 }
+
+-- a stretch without a break
+found_past : (units : List ℕ) (found : List LineSpan) (start at n : ℕ) → at + n ≤ length units → ((q : ℕ) → at ≤ q → q < at + n → break_len units q ≡ 0) → Found units found start at → Found units found start (at + n)
+found_past units found start at zero within none f =
+    let P : ℕ → Type 0 = Found units found start in
+    let e : at ≡ at + zero = omega arith in
+    subst P e f
+found_past units found start at (suc n) within none f =
+    let P : ℕ → Type 0 = Found units found start in
+    let e : at + n + 1 ≡ at + suc n = omega arith in
+    subst P e (found_skip units found start (at + n) (omega arith) (none (at + n) (omega arith) (omega arith)) (found_past units found start at n (omega arith) (λ q le lt. none q le (omega arith)) f))
+
+pub found_up_to : (units : List ℕ) (found : List LineSpan) (start at next : ℕ) → at ≤ next → next ≤ length units → ((q : ℕ) → at ≤ q → q < next → break_len units q ≡ 0) → Found units found start at → Found units found start next
+found_up_to units found start at next later within none f =
+    let P : ℕ → Type 0 = Found units found start in
+    let e : at + (next - at) ≡ next = omega (arith, later) in
+    subst P e (found_past units found start at (next - at) (omega arith) (λ q le lt. none q le (omega arith)) f)
 
 last_pushed : (found : List LineSpan) (l d : LineSpan) → get_or (found ++ l ∷ []) (length (found ++ l ∷ []) - 1) d ≡ l
 last_pushed found l d =

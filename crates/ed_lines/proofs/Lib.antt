@@ -1,3 +1,4 @@
-mod Rows
 mod Ahead
+mod Around
 mod Counted
+mod Rows

@@ -3,8 +3,8 @@ ghost use Rattle.std.specs.Prelude.{◌≡◌, ℕ, ◌<◌, List, length, drop,
 ghost use Rattle.ed_lines.specs.Lines.{line_of, lines};
 
 use crate::finding::lines_of;
-use ed_base::{LineList, LineSpan, OutOfMemory, Span, Units};
-use ed_text::{DocText, Text};
+use ed_base::{LineList, LineSpan, OutOfMemory};
+use ed_text::DocText;
 use std::alloc::Global;
 use std::marker::Model;
 
@@ -27,7 +27,7 @@ impl Model for Lines {
 }
 
 impl Lines {
-    /// The lines of the text, in one pass over it. A carriage return (13) with a line feed (10)
+    /// The lines of the text, in one pass over the runs that are stored. A carriage return (13) with a line feed (10)
     /// after it is one break of two units; each of them without the other, and each next line (133),
     /// line separator (8232) and paragraph separator (8233), is a break of one unit. A text with k
     /// breaks has k + 1 lines, of which the last may be empty. They are `ITextSnapshotLine` of the
@@ -39,13 +39,7 @@ impl Lines {
     pub fn of(alloc: Global, text: &DocText) -> Result<Lines, OutOfMemory>
         ensures { IfOk result (λ t. t ≡ lines text.now) }
     {
-        let mut units = Units::new(alloc);
-        let whole = Span {
-            start: 0,
-            len: text.len(),
-        };
-        text.copy_out(whole, &mut units)?;
-        let found = lines_of(alloc, units.as_slice())?;
+        let found = lines_of(alloc, text)?;
         let list = LineList::of(alloc, found)?;
         Ok(Lines { list })
     }

@@ -1,5 +1,5 @@
 //! Texts whose units stand in one block.
-ghost use Rattle.std.specs.Prelude.{◌≡◌, ℕ, ◌<◌, ◌≤◌, ◌^◌, List, ◌++◌, length, flat_map, sum_by, slice_get, slice_range, IfOk, OnOk, OnErr};
+ghost use Rattle.std.specs.Prelude.{◌≡◌, ℕ, ◌+◌, ◌<◌, ◌≤◌, ◌^◌, List, ◌++◌, length, flat_map, sum_by, slice_get, slice_range, IfOk, OnOk, OnErr};
 ghost use Rattle.ed_base.specs.Spans.{end_of};
 ghost use Rattle.ed_base.specs.ChangeList.{applied, new_len};
 
@@ -38,9 +38,8 @@ fn total_len(parts: &[PlainText]) -> usize
 }
 
 impl PlainText {
-    /// The units. Only this representation has them in one piece: code that is to work over every
-    /// text takes `Text::unit` and `Text::copy_out`.
-    pub fn as_slice(&self) -> &[Unit]
+    /// The units.
+    fn as_slice(&self) -> &[Unit]
         ensures { result.now ≡ self.now }
     {
         self.block.as_slice()
@@ -87,6 +86,15 @@ impl Text for PlainText {
         ensures { slice_get self.now at ≡ Some result }
     {
         self.as_slice()[at as usize]
+    }
+
+    fn run(&self, span: Span) -> &[Unit]
+        requires { end_of span ≤ length self.now }
+        ensures some { 0 < span.len → 0 < length result.now }
+        ensures inside { length result.now ≤ span.len }
+        ensures units { result.now ≡ slice_range self.now span.start (span.start + length result.now) }
+    {
+        self.part(span)
     }
 
     fn share(&self) -> Result<PlainText, OutOfMemory>

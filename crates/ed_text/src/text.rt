@@ -1,5 +1,5 @@
 //! What every representation of a text promises.
-ghost use Rattle.std.specs.Prelude.{◌≡◌, ℕ, ◌<◌, ◌≤◌, ◌^◌, List, ◌++◌, length, flat_map, sum_by, slice_get, slice_range, IfOk, OnOk, OnErr};
+ghost use Rattle.std.specs.Prelude.{◌≡◌, ℕ, ◌+◌, ◌<◌, ◌≤◌, ◌^◌, List, ◌++◌, length, flat_map, sum_by, slice_get, slice_range, IfOk, OnOk, OnErr};
 ghost use Rattle.ed_base.specs.Spans.{end_of};
 ghost use Rattle.ed_base.specs.ChangeList.{applied, new_len};
 
@@ -36,6 +36,14 @@ pub trait Text: Sized + Drop {
     fn unit(&self, at: u32) -> Unit
         requires { at < length (units self.now) }
         ensures { slice_get (units self.now) at ≡ Some result };
+
+    /// The units at the beginning of a span, as they are stored in one piece: at least one, unless
+    /// the span is empty. A reader takes a span run by run, and nothing is copied.
+    fn run(&self, span: Span) -> &[Unit]
+        requires { end_of span ≤ length (units self.now) }
+        ensures some { 0 < span.len → 0 < length result.now }
+        ensures inside { length result.now ≤ span.len }
+        ensures units { result.now ≡ slice_range (units self.now) span.start (span.start + length result.now) };
 
     /// A further holder of the same text. Nothing is copied.
     fn share(&self) -> Result<Self, OutOfMemory>

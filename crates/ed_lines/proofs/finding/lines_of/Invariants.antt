@@ -4,7 +4,7 @@ use Rattle.ed_lines.proofs.Ahead.{Found}
 use Rattle.ed_lines.proofs.finding.lines_of.Given as goal
 
 abbrev pub invariant-loop-at : goal.invariant-loop-at
-invariant-loop-at l = Found l.units l.lines.items l.start l.at
+invariant-loop-at g l = Found (g.T.Text.units l.text) l.lines.items l.start l.at
 
 abbrev pub decreases-loop-at : goal.decreases-loop-at
-decreases-loop-at l = length l.units - l.at
+decreases-loop-at g l = length (g.T.Text.units l.text) - l.at

@@ -1,0 +1,4 @@
+use Rattle.ed_text.proofs.tree.TreeTextText.from_units.Given as goal
+
+abbrev pub ghosts-build_with : goal.ghosts-build_with
+ghosts-build_with a = record { name = a.blank.name; parts = a.blank.parts }
