@@ -4,7 +4,7 @@ use Rattle.std.specs.Prelude.{IsErr}
 use Rattle.ed_base.specs.declared.memory.OutOfMemory.{OutOfMemory}
 use Rattle.ed_base.specs.declared.refusal.Refusal.{Refusal}
 use Rattle.ed_entry.specs.declared.Reply.{Reply}
-use Rattle.ed_group.specs.Laws.{RecordsStay}
+use Rattle.ed_risen.specs.Laws.{RecordsStay}
 use Rattle.ed_machine.specs.Accepted.{Outcome, answers}
 use Rattle.ed_machine.specs.State.{State}
 use Rattle.ed_stock.specs.Stock.{Stock}

@@ -2,7 +2,7 @@
 use Rattle.std.specs.Prelude.{◌≡◌, Result, IfOk, OnOk, OnErr}
 use Rattle.ed_base.specs.declared.OutOfMemory.{OutOfMemory}
 use Rattle.ed_entry.specs.declared.Reply.{Reply}
-use Rattle.ed_group.specs.Laws.{RecordsStay}
+use Rattle.ed_risen.specs.Laws.{RecordsStay}
 use Rattle.ed_machine.specs.Accepted.{Outcome}
 use Rattle.ed_machine.specs.State.{State}
 

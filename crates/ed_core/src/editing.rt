@@ -1,7 +1,7 @@
 //! Edits of bases.
 ghost use Rattle.std.specs.Prelude.{◌≡◌, ◌+◌, ◌<◌, ◌≤◌, ◌^◌, false, length, None, Some, IfOk, OnOk, OnErr};
 ghost use Rattle.ed_callbacks.specs.HookLists.{hook_table};
-ghost use Rattle.ed_group.specs.Laws.{RecordsStay};
+ghost use Rattle.ed_risen.specs.Laws.{RecordsStay};
 ghost use Rattle.ed_layers.specs.Records.{is_carrier};
 ghost use Rattle.ed_machine.specs.State.{count, record_now, text_now};
 ghost use Rattle.ed_machine.specs.Refusals.{len_now, stale};

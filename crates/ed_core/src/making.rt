@@ -3,7 +3,7 @@ ghost use Rattle.std.specs.Prelude.{◌≡◌, ◌++◌, ◌∷◌, [], None, So
 ghost use Rattle.std.specs.Str.{bytes_eq};
 ghost use Rattle.ed_base.specs.Hooks.{HookTable};
 ghost use Rattle.ed_group.specs.Answers.{LiesIn};
-ghost use Rattle.ed_group.specs.Laws.{RecordsStay};
+ghost use Rattle.ed_risen.specs.Laws.{RecordsStay};
 ghost use Rattle.ed_machine.specs.State.{number_of};
 ghost use Rattle.ed_machine.specs.Step.{told};
 ghost use Rattle.ed_script.specs.declared.Command.{Command as Told};

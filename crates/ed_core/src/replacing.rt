@@ -2,7 +2,7 @@
 ghost use Rattle.std.specs.Prelude.{◌≡◌, ◌+◌, ◌<◌, ◌≤◌, true, length, None, All, IfOk, OnOk, OnErr};
 ghost use Rattle.ed_base.specs.Hooks.{HookTable};
 ghost use Rattle.ed_group.specs.Answers.{LiesIn, members_now};
-ghost use Rattle.ed_group.specs.Laws.{RecordsStay};
+ghost use Rattle.ed_risen.specs.Laws.{RecordsStay};
 ghost use Rattle.ed_layers.specs.Records.{is_carrier};
 ghost use Rattle.ed_machine.specs.State.{count, record_now};
 ghost use Rattle.ed_machine.specs.Step.{told};

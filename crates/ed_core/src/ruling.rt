@@ -8,7 +8,7 @@ ghost use Rattle.ed_machine.specs.Step.{told, within_limits, weighed};
 ghost use Rattle.ed_machine.specs.Refusals.{no_hook};
 ghost use Rattle.ed_base.specs.Hooks.{HookTable};
 ghost use Rattle.ed_callbacks.specs.HookLists.{hook_table};
-ghost use Rattle.ed_group.specs.Laws.{RecordsStay};
+ghost use Rattle.ed_risen.specs.Laws.{RecordsStay};
 ghost use Rattle.ed_script.specs.declared.Command.{Command as Told};
 ghost use Rattle.ed_readonly.specs.declared.RegionFault.{RegionFault as Fault};
 ghost use Rattle.ed_core.specs.Doing.{Does};

@@ -1,7 +1,7 @@
 //! The core as a value.
 ghost use Rattle.std.specs.Prelude.{◌≡◌, ◌<◌, IfSome};
 ghost use Rattle.ed_entry.specs.declared.Reply.{Reply as Answered};
-ghost use Rattle.ed_group.specs.Laws.{CurrentVector, OneVector, RecordsStay};
+ghost use Rattle.ed_risen.specs.Laws.{CurrentVector, OneVector, RecordsStay};
 ghost use Rattle.ed_machine.specs.State.{empty_state, number_of, count};
 ghost use Rattle.ed_machine.specs.Accepted.{answers};
 ghost use Rattle.ed_machine.specs.Step.{within_limits, weighed};

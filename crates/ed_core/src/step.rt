@@ -1,7 +1,7 @@
 //! What an event does.
 ghost use Rattle.std.specs.Prelude.{◌≡◌, IfOk, OnOk, OnErr};
 ghost use Rattle.ed_callbacks.specs.HookLists.{hook_table};
-ghost use Rattle.ed_group.specs.Laws.{CurrentVector, OneVector, RecordsStay};
+ghost use Rattle.ed_risen.specs.Laws.{CurrentVector, OneVector, RecordsStay};
 ghost use Rattle.ed_machine.specs.Step.{step, told};
 ghost use Rattle.ed_core.specs.Doing.{Does};
 

@@ -2,7 +2,7 @@
 use Rattle.std.specs.Prelude.{List, [], ◌∷◌}
 use Rattle.ed_base.specs.Hooks.{HookTable}
 use Rattle.ed_entry.specs.declared.Entry.{Entry}
-use Rattle.ed_group.specs.Laws.{CurrentVector, OneVector, RecordsStay}
+use Rattle.ed_risen.specs.Laws.{CurrentVector, OneVector, RecordsStay}
 use Rattle.ed_machine.specs.State.{State, empty_state}
 use Rattle.ed_machine.specs.Step.{step}
 

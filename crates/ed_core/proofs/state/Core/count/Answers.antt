@@ -1,5 +1,5 @@
 use Rattle.std.proofs.Common.{subst}
-use Rattle.ed_group.specs.Laws.{CurrentVector, OneVector}
+use Rattle.ed_risen.specs.Laws.{CurrentVector, OneVector}
 use Rattle.ed_machine.specs.State.{State}
 use Rattle.ed_core.proofs.state.Core.count.Goals as goal
 

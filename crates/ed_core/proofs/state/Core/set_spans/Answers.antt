@@ -1,5 +1,5 @@
 use Rattle.std.proofs.Common.{◌∙◌, ap, subst}
-use Rattle.ed_group.specs.Laws.{RecordsStay}
+use Rattle.ed_risen.specs.Laws.{RecordsStay}
 use Rattle.ed_group.specs.Seen.{stock as seen}
 use Rattle.ed_stock.specs.Stock.{Stock}
 use Rattle.ed_stock.specs.Making.{spans_set}
