@@ -12,8 +12,6 @@ mod ruling;
 mod state;
 mod step;
 mod telling;
-#[cfg(test)]
-mod tests;
 mod tracking;
 mod weights;
 

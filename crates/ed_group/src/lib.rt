@@ -23,8 +23,6 @@ mod sources;
 mod spanning;
 mod spans;
 mod stock;
-#[cfg(test)]
-mod tests;
 
 pub use fault::PlanFault;
 pub use group::Group;

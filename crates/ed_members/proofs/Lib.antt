@@ -13,4 +13,3 @@ pub mod NextStarts
 pub mod After
 pub mod Within
 pub mod StayApart
-pub mod Unowned

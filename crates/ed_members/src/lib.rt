@@ -14,8 +14,6 @@ mod nexts;
 mod sorted;
 mod starts;
 mod steps;
-#[cfg(test)]
-mod tests;
 
 pub use fault::MemberFault;
 pub use members::Members;

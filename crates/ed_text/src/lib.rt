@@ -2,8 +2,6 @@
 #![tactic(auto)]
 
 mod plain;
-#[cfg(test)]
-mod tests;
 mod text;
 
 pub use plain::PlainText;
