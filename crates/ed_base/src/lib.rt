@@ -15,8 +15,6 @@ mod script;
 mod shared;
 mod steps;
 mod tags;
-#[cfg(test)]
-mod tests;
 mod units;
 
 pub use changes::Changes;

@@ -41,31 +41,3 @@ impl<L: Ledger> Steps<L> {
         self.book.add(&mut self.share, 1);
     }
 }
-
-#[cfg(test)]
-mod tests {
-    use super::*;
-    use std::marker::Brand;
-
-    fn ticked_twice<L: Ledger>(steps: &mut Steps<L>)
-        ensures { steps.new ≡ steps.old + 2 }
-    {
-        steps.tick();
-        steps.tick();
-    }
-
-    fn counted<L: Ledger>(blank: Blank)
-        requires name { blank.name ≡ L.name }
-        requires parts { blank.parts ≡ L.parts }
-        requires some { 0 < blank.parts }
-    {
-        let mut steps = Steps::<L>::begin(blank);
-        ticked_twice(&mut steps);
-    }
-
-    // What it shows stands in the clauses: a caller without a counter can open one and hand it down.
-    #[test]
-    fn a_caller_opens_a_counter() {
-        counted::<Brand>(Blank::new(1));
-    }
-}

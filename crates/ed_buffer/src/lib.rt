@@ -5,8 +5,6 @@ mod base;
 mod fault;
 mod planned;
 mod replaces;
-#[cfg(test)]
-mod tests;
 
 pub use base::Base;
 pub use ed_base::{Piece, Side, Trail};

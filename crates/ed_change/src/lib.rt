@@ -7,8 +7,6 @@ mod fault;
 mod normal;
 mod pending;
 mod sorting;
-#[cfg(test)]
-mod tests;
 mod text;
 
 pub use back::inverse;

@@ -7,8 +7,6 @@ mod heights;
 mod ordering;
 mod reaching;
 mod rows;
-#[cfg(test)]
-mod tests;
 
 pub use fault::LinkFault;
 pub use graph::Graph;

@@ -24,8 +24,6 @@ mod sources;
 mod spanning;
 mod spans;
 mod stock;
-#[cfg(test)]
-mod tests;
 
 pub use fault::PlanFault;
 pub use group::Group;

@@ -36,37 +36,3 @@ fn write_some<O: Sink>(sink: &mut O, piece: &[u8]) -> Result<usize, Failed>
         answer => answer,
     }
 }
-
-#[cfg(test)]
-mod tests {
-    use super::*;
-    use crate::MemorySink;
-    use std::test::*;
-
-    const TEXT: &[u8] = b"one two three";
-
-    #[test]
-    fn a_failed_write_cuts_off_the_rest(rt: HostRuntime) -> Result<(), Fail> {
-        for failing in 1..=14u32 {
-            let fail_at = vec![in rt.alloc(); failing]?;
-            let mut sink = MemorySink::new(rt.alloc(), 20, 1, fail_at)?;
-            let answer = write_all(&mut sink, TEXT);
-            let written = (failing.saturating_sub(1) as usize).min(TEXT.len());
-            assert_eq!(rt; sink.written(), &TEXT[..written], "{failing}");
-            assert_eq!(rt; answer.is_ok(), failing == 14, "{failing}");
-        }
-        Ok(())
-    }
-
-    #[test]
-    fn writes_as_far_as_room_is_left(rt: HostRuntime) -> Result<(), Fail> {
-        for (room, written) in [(0, 0), (12, 12), (13, 13), (14, 13)] {
-            let mut sink = MemorySink::new(rt.alloc(), room, 5, Vec::new(rt.alloc()))?;
-            let answer = write_all(&mut sink, TEXT);
-            assert_eq!(rt; sink.written().len(), written, "{room}");
-            assert_eq!(rt; answer.is_ok(), written == 13, "{room}");
-            assert!(rt; write_all(&mut sink, b"").is_ok());
-        }
-        Ok(())
-    }
-}

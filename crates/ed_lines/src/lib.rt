@@ -3,7 +3,5 @@
 
 mod finding;
 mod table;
-#[cfg(test)]
-mod tests;
 
 pub use table::Lines;

@@ -14,4 +14,3 @@ pub mod NextStarts
 pub mod After
 pub mod Within
 pub mod StayApart
-pub mod Unowned

@@ -14,8 +14,6 @@ mod sorted;
 mod starts;
 mod steps;
 mod sweeps;
-#[cfg(test)]
-mod tests;
 
 pub use fault::MemberFault;
 pub use members::Members;

@@ -8,4 +8,3 @@ pub mod Whole
 pub mod Long
 pub mod Walking
 pub mod Nexts
-pub mod Trying

@@ -10,8 +10,6 @@ mod projection;
 mod runs;
 mod shown;
 mod sources;
-#[cfg(test)]
-mod tests;
 mod texts;
 
 pub use fault::ProjectionFault;

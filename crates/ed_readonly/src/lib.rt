@@ -5,8 +5,6 @@
 mod fault;
 mod region;
 mod regions;
-#[cfg(test)]
-mod tests;
 
 pub use fault::RegionFault;
 pub use region::ReadOnlyRegion;

@@ -6,7 +6,5 @@ mod lines;
 mod push;
 mod refusals;
 mod replies;
-#[cfg(test)]
-mod tests;
 
 pub use lines::line;

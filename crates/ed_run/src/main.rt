@@ -2,20 +2,9 @@
 //! standard output.
 #![tactic(auto)]
 
-mod hooks;
-mod replay;
-mod report;
-mod run;
-mod telling;
-#[cfg(test)]
-mod tests;
-mod writing;
-
 use ed_base::{Edges, VersionNo};
 use ed_io::{StdSink, StdSource};
-use hooks::hooks_of;
-use report::Status;
-use run::run;
+use ed_replay::{Status, hooks_of, run};
 use std::io::ErrorKind;
 use std::process::ExitCode;
 use std::rt::Env;

@@ -6,8 +6,6 @@ mod fields;
 mod kinds;
 mod read;
 mod reader;
-#[cfg(test)]
-mod tests;
 
 pub use bad::{BadKind, BadLine, LineFault};
 pub use kinds::Command;

@@ -7,8 +7,6 @@ mod level;
 mod node;
 mod plain;
 mod row;
-#[cfg(test)]
-mod tests;
 mod text;
 mod tree;
 

@@ -4,5 +4,4 @@ pub mod Walks
 pub mod Places
 pub mod WayEdges
 pub mod Passing
-pub mod Pushing
 pub mod LinkedSteps

@@ -4,8 +4,6 @@
 mod edge;
 mod points;
 mod spans;
-#[cfg(test)]
-mod tests;
 mod through;
 
 pub use points::{back_point, point};

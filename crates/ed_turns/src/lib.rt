@@ -16,8 +16,6 @@ mod ready;
 mod seats;
 mod shutting;
 mod steps;
-#[cfg(test)]
-mod tests;
 mod twice;
 mod view;
 

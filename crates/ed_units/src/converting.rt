@@ -21,26 +21,3 @@ pub fn to_units(alloc: Global, text: &str) -> Result<Units, OutOfMemory>
     }
     Ok(units)
 }
-
-#[cfg(test)]
-mod tests {
-    use super::*;
-    use std::test::*;
-
-    #[test]
-    fn takes_characters_of_each_length(rt: HostRuntime) -> Result<(), Fail> {
-        assert_eq!(rt; to_units(rt.alloc(), "")?.as_slice(), [].as_slice());
-        let units = to_units(
-            rt.alloc(),
-            "a\u{7F}\u{80}\u{7FF}\u{800}\u{FFFF}\u{10000}\u{10FFFF}",
-        )?;
-        let expected = [
-            0x61, 0x7F, 0x80, 0x7FF, 0x800, 0xFFFF, 0xD800, 0xDC00, 0xDBFF, 0xDFFF,
-        ];
-        assert_eq!(rt; units.as_slice(), expected.as_slice());
-        let units = to_units(rt.alloc(), "aé€😀é")?;
-        let expected = [0x61, 0xE9, 0x20AC, 0xD83D, 0xDE00, 0xE9];
-        assert_eq!(rt; units.as_slice(), expected.as_slice());
-        Ok(())
-    }
-}

@@ -3,8 +3,6 @@
 
 mod chain;
 mod snapshot;
-#[cfg(test)]
-mod tests;
 
 pub use chain::{Chain, Version};
 pub use snapshot::Snapshot;

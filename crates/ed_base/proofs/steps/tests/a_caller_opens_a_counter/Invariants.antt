@@ -1,4 +1,0 @@
-use Rattle.ed_base.proofs.steps.tests.a_caller_opens_a_counter.Given as goal
-
-abbrev pub ghosts-counted : goal.ghosts-counted
-ghosts-counted a = record { name = a.blank.name; parts = a.blank.parts }

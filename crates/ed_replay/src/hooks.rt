@@ -1,0 +1,116 @@
+//! The hooks that commands may name.
+ghost use Rattle.std.specs.Prelude.{◌≡◌, [], None, true, IfOk, OnOk};
+ghost use Rattle.ed_base.specs.declared.QueryRule.{QueryRule};
+ghost use Rattle.ed_base.specs.declared.CustomRule.{CustomRule};
+ghost use Rattle.ed_base.specs.Hooks.{named};
+ghost use Rattle.ed_base.specs.Names.{is_name};
+ghost use Rattle.ed_callbacks.specs.Answering.{AnswersCustom, AnswersQuery};
+ghost use Rattle.ed_callbacks.specs.HookLists.{hook_table, with_custom, with_query};
+ghost use Rattle.ed_replay.specs.ProgramHooks.{program_customs, program_hooks, program_queries};
+
+use ed_base::{CustomRule, Name, OutOfMemory, QueryRule};
+use ed_callbacks::{Ask, CustomTrack, Hooks, RegionQuery, Track};
+use std::alloc::Global;
+
+/// Keeps a query of read-only regions under a name that no query has.
+fn keep_query(
+    alloc: Global,
+    hooks: &mut Hooks,
+    name: &str,
+    rule: QueryRule,
+    ask: Ask,
+) -> Result<(), OutOfMemory>
+    requires valid { is_name name.now ≡ true }
+    requires free { named name.now (hook_table hooks.old).queries ≡ None }
+    requires answers { AnswersQuery (Ask.pre ask) (Ask.post ask) rule }
+    ensures { OnOk result (hook_table hooks.new ≡ with_query (hook_table hooks.old) (name.now, rule)) }
+{
+    let query = RegionQuery::new(Name::of(alloc, name)?, rule, ask);
+    hooks.add_query(query)
+}
+
+/// Keeps a way of tracking spans under a name that no other has.
+fn keep_custom(
+    alloc: Global,
+    hooks: &mut Hooks,
+    name: &str,
+    rule: CustomRule,
+    track: Track,
+) -> Result<(), OutOfMemory>
+    requires valid { is_name name.now ≡ true }
+    requires free { named name.now (hook_table hooks.old).customs ≡ None }
+    requires answers { AnswersCustom (Track.pre track) (Track.post track) rule }
+    ensures { OnOk result (hook_table hooks.new ≡ with_custom (hook_table hooks.old) (name.now, rule)) }
+{
+    let custom = CustomTrack::new(Name::of(alloc, name)?, rule, track);
+    hooks.add_custom(custom)
+}
+
+/// Keeps the queries of the program.
+#[tactic(auto, unfolding(ed_base::specs::Names::is_name))]
+fn keep_queries(
+    alloc: Global,
+    hooks: &mut Hooks,
+    always: Ask,
+    edit_only: Ask,
+    even_version: Ask,
+) -> Result<(), OutOfMemory>
+    requires none { (hook_table hooks.old).queries ≡ [] }
+    requires always { AnswersQuery (Ask.pre always) (Ask.post always) QueryRule.Always }
+    requires edit_only { AnswersQuery (Ask.pre edit_only) (Ask.post edit_only) QueryRule.EditOnly }
+    requires even_version { AnswersQuery (Ask.pre even_version) (Ask.post even_version) QueryRule.EvenVersion }
+    ensures { OnOk result (hook_table hooks.new ≡ record (hook_table hooks.old) { queries = program_queries }) }
+{
+    keep_query(alloc, hooks, "always", QueryRule::Always, always)?;
+    keep_query(alloc, hooks, "edit_only", QueryRule::EditOnly, edit_only)?;
+    keep_query(
+        alloc,
+        hooks,
+        "even_version",
+        QueryRule::EvenVersion,
+        even_version,
+    )
+}
+
+/// Keeps the program's ways of tracking spans.
+#[tactic(auto, unfolding(ed_base::specs::Names::is_name))]
+fn keep_customs(
+    alloc: Global,
+    hooks: &mut Hooks,
+    sticky: Track,
+    caret: Track,
+) -> Result<(), OutOfMemory>
+    requires none { (hook_table hooks.old).customs ≡ [] }
+    requires sticky { AnswersCustom (Track.pre sticky) (Track.post sticky) CustomRule.Sticky }
+    requires caret { AnswersCustom (Track.pre caret) (Track.post caret) CustomRule.Caret }
+    ensures { OnOk result (hook_table hooks.new ≡ record (hook_table hooks.old) { customs = program_customs }) }
+{
+    keep_custom(alloc, hooks, "sticky", CustomRule::Sticky, sticky)?;
+    keep_custom(alloc, hooks, "caret", CustomRule::Caret, caret)
+}
+
+/// The hooks of the program: a closure for each rule, under the rule's name.
+///
+/// # Errors
+///
+/// Memory was refused.
+pub fn hooks_of(
+    alloc: Global,
+    always: Ask,
+    edit_only: Ask,
+    even_version: Ask,
+    sticky: Track,
+    caret: Track,
+) -> Result<Hooks, OutOfMemory>
+    requires always { AnswersQuery (Ask.pre always) (Ask.post always) QueryRule.Always }
+    requires edit_only { AnswersQuery (Ask.pre edit_only) (Ask.post edit_only) QueryRule.EditOnly }
+    requires even_version { AnswersQuery (Ask.pre even_version) (Ask.post even_version) QueryRule.EvenVersion }
+    requires sticky { AnswersCustom (Track.pre sticky) (Track.post sticky) CustomRule.Sticky }
+    requires caret { AnswersCustom (Track.pre caret) (Track.post caret) CustomRule.Caret }
+    ensures { IfOk result (λ h. hook_table h ≡ program_hooks) }
+{
+    let mut hooks = Hooks::new(alloc);
+    keep_queries(alloc, &mut hooks, always, edit_only, even_version)?;
+    keep_customs(alloc, &mut hooks, sticky, caret)?;
+    Ok(hooks)
+}

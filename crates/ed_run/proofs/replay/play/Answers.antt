@@ -1,5 +1,0 @@
-use Rattle.ed_run.proofs.Replays.{nothing_performed}
-use Rattle.ed_run.proofs.replay.play.Goals as goal
-
-pub returns-clause-plays : goal.returns-clause-plays
-returns-clause-plays g c = nothing_performed _ _ _ _ _ _ c.nothing_done.ensures.status c.nothing_done.ensures.entries

@@ -1,0 +1,8 @@
+//! Tests of buffers that stand on one another, where no script reaches. What scripts reach is shown
+//! by the sessions under `examples/`.
+#![tactic(auto)]
+
+#[cfg(test)]
+mod graphs;
+#[cfg(test)]
+mod stocks;
