@@ -13,7 +13,7 @@ use Rattle.ed_base.specs.declared.edit.Change.{Change}
 use Rattle.ed_base.specs.declared.edit.Replace.{Replace}
 use Rattle.ed_base.specs.Edit.{inserted_at, is_deleted, edited, origins, units_put_in}
 use Rattle.ed_base.specs.Step.{Step, step_of, pairs_from}
-use Rattle.ed_base.specs.ChangeList.{ChangeList, change, normal_form, applied, step, new_len, AreNormalFrom}
+use Rattle.ed_base.specs.ChangeList.{ChangeList, change, normal_form, applied, step, new_len, inserted_len, AreNormalFrom}
 use Rattle.ed_base.proofs.NormalLists.{given, sum_by_given}
 use Rattle.ed_change.specs.Ranges.{AllWithin, AllIdle, first_past}
 use Rattle.ed_change.specs.Sweep.{AreInOrder, change_if, sweep}
@@ -161,6 +161,9 @@ module _ (n : ℕ) (all sorted : List Replace) (order : AreInOrder all sorted) (
   pub swept_new_len : new_len (listed n (sweep 0 0 [] sorted)) ≤ n + units_put_in all
   swept_new_len = omega (arith, sum_by_given (sweep 0 0 [] sorted), given_sweep 0 0 [] sorted, sum_by-IsPermutation (λ r. length r.text) all sorted order.same)
 
+  pub swept_inserted : inserted_len (listed n (sweep 0 0 [] sorted)) ≡ units_put_in all
+  swept_inserted = omega (arith, sum_by_given (sweep 0 0 [] sorted), given_sweep 0 0 [] sorted, sum_by-IsPermutation (λ r. length r.text) all sorted order.same)
+
   pub swept_nothing : (sweep 0 0 [] sorted ≡ []) ↔ AllIdle all
   swept_nothing = (
     λ h. All-permutation (λ (r : Replace). (r.len ≡ 0) × (r.text ≡ [])) sorted all (IsPermutation-sym all sorted order.same) (idle_all sorted (idle_sweep 0 0 0 n [] sorted (omega arith) (omega arith) sorted_rises h).2),
@@ -192,6 +195,7 @@ pub record IsMerged (n : ℕ) (all : List Replace) (c : ChangeList) : Type 0 whe
   pub normal : c ≡ normal_form all n
   pub text : (text : List ℕ) → length text ≡ n → applied c text ≡ edited all text
   pub step : step c ≡ step_of all n
+  pub inserted : inserted_len c ≡ units_put_in all
   pub nothing : (c.changes ≡ []) ↔ AllIdle all
 
 pub is_merged : (n : ℕ) (all sorted : List Replace) → AreInOrder all sorted → AllWithin n all → (items : List Change) (c : ChangeList) → items ≡ sweep 0 0 [] sorted → c ≡ listed n items → IsMerged n all c
@@ -202,5 +206,6 @@ is_merged n all sorted order within items c e h =
       normal = same ∙ sym swept;
       text = λ text l. ap (λ d. applied d text) (same ∙ sym swept) ∙ swept_text n all sorted order within text l;
       step = ap step (same ∙ sym swept) ∙ swept_step n all sorted order within;
+      inserted = ap inserted_len same ∙ swept_inserted n all sorted order within;
       nothing = rw same (swept_nothing n all sorted order within);
     }

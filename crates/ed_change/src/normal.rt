@@ -1,7 +1,7 @@
 //! The normal form of an edit.
 ghost use Rattle.std.specs.Prelude.{◌≡◌, ℕ, ◌+◌, ◌≤◌, ◌^◌, ◌↔◌, List, [], length, MatchOption, IfOk, IfErr, option_map};
 ghost use Rattle.ed_base.specs.Edit.{edited, units_put_in};
-ghost use Rattle.ed_base.specs.ChangeList.{normal_form, applied, step};
+ghost use Rattle.ed_base.specs.ChangeList.{normal_form, applied, step, inserted_len};
 ghost use Rattle.ed_base.specs.Step.{step_of};
 ghost use Rattle.ed_change.specs.Ranges.{first_past, AllIdle, AllWithin};
 
@@ -35,6 +35,7 @@ fn merged(alloc: Global, len: u32, replaces: &[Replace]) -> Result<Changes, OutO
     ensures normal { IfOk result (λ c. c ≡ normal_form replaces.now len) }
     ensures text { IfOk result (λ c. (text : List ℕ) → length text ≡ len → applied c text ≡ edited replaces.now text) }
     ensures step { IfOk result (λ c. step c ≡ step_of replaces.now len) }
+    ensures inserted { IfOk result (λ c. inserted_len c ≡ units_put_in replaces.now) }
     ensures nothing { IfOk result (λ c. (c.changes ≡ []) ↔ AllIdle replaces.now) }
 {
     let order = by_start(alloc, replaces)?;
@@ -61,6 +62,7 @@ pub fn normalise(alloc: Global, len: u32, replaces: &[Replace]) -> Result<Change
     ensures past { MatchOption (first_past len replaces.now) (IfErr result (λ e. e ≡ ChangeFault.OutOfMemory)) (λ r. result ≡ Err (ChangeFault.OutOfRange (r.start + r.len) len)) }
     ensures text { IfOk result (λ c. (text : List ℕ) → length text ≡ len → applied c text ≡ edited replaces.now text) }
     ensures step { IfOk result (λ c. step c ≡ step_of replaces.now len) }
+    ensures inserted { IfOk result (λ c. inserted_len c ≡ units_put_in replaces.now) }
     ensures nothing { IfOk result (λ c. (c.changes ≡ []) ↔ AllIdle replaces.now) }
 {
     if let Some(replace) = past(len, replaces) {

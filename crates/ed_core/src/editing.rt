@@ -1,5 +1,6 @@
 //! Edits of bases.
 ghost use Rattle.std.specs.Prelude.{◌≡◌, ◌+◌, ◌<◌, ◌≤◌, ◌^◌, false, length, None, Some, IfOk, OnOk, OnErr};
+ghost use Rattle.ed_base.specs.ChangeList.{inserted_len};
 ghost use Rattle.ed_callbacks.specs.HookLists.{hook_table};
 ghost use Rattle.ed_risen.specs.Laws.{RecordsStay};
 ghost use Rattle.ed_layers.specs.Records.{is_carrier};
@@ -14,7 +15,6 @@ ghost use Rattle.ed_core.specs.Within.{IsWithin};
 
 use crate::landing::land;
 use crate::state::Core;
-use crate::weights::inserted;
 use ed_base::{
     BufferNo, Changes, Name, OutOfMemory, Refusal, Replace, ReplaceList, VersionList, VersionNo,
 };
@@ -83,6 +83,7 @@ impl Core {
         requires there { buffer < count self.old }
         requires base { is_carrier (record_now self.old buffer) ≡ false }
         requires from { changes.now.old_len ≡ length (text_now self.old buffer) }
+        requires put_in { inserted_len changes.now ≤ 2 ^ 27 }
         ensures reply { IfOk result (λ r. r ≡ (changes_outcome (hook_table hooks.now) self.old buffer changes.now).reply) }
         ensures state { OnOk result (self.new ≡ (changes_outcome (hook_table hooks.now) self.old buffer changes.now).state) }
         ensures err { OnErr result (self.new ≡ self.old) }
@@ -91,9 +92,6 @@ impl Core {
         if changes.count() == 0 {
             let versions = VersionList::empty();
             return Ok(Reply::Edited { versions });
-        }
-        if inserted(changes) > MOST_PUT_IN {
-            return Err(OutOfMemory);
         }
         let planned = self.stock.plan_edit(self.alloc, hooks, buffer, changes);
         land(&mut self.stock, planned)

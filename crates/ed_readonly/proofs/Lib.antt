@@ -1,2 +1,4 @@
 pub mod Numbering
 pub mod Moving
+pub mod Bisected
+pub mod Earliest

@@ -1,1 +1,2 @@
 pub mod LiveRegions
+pub mod Denied

@@ -1,11 +1,12 @@
 //! One read-only region.
-ghost use Rattle.std.specs.Prelude.{◌≡◌, ◌+◌, ◌<◌, ◌≤◌, ◌&&◌, max, min, option_map};
-ghost use Rattle.ed_base.specs.ChangeList.{new_len, step};
+ghost use Rattle.std.specs.Prelude.{◌≡◌, ℕ, ◌+◌, ◌<◌, ◌≤◌, ◌&&◌, length, max, min, option_map, slice_index};
+ghost use Rattle.ed_base.specs.ChangeList.{AreNormalFrom, new_len, step};
 ghost use Rattle.ed_base.specs.Denial.{forbids, forbids_insertion, query_lets, region_after};
 ghost use Rattle.ed_base.specs.Spans.{end_of, shares_unit, touches_gap};
 ghost use Rattle.ed_callbacks.specs.HookLists.{hook_table};
+ghost use Rattle.ed_readonly.specs.Denied.{ends, first_forbidden, forbids_at, taken_span};
 
-use ed_base::{Changes, EdgeMode, Name, RegionNo, Span, SpanMode, VersionNo};
+use ed_base::{Change, Changes, EdgeMode, Name, RegionNo, Span, SpanMode, VersionNo};
 use ed_callbacks::Hooks;
 use std::marker::Model;
 
@@ -64,6 +65,44 @@ fn lets_deny(hooks: &Hooks, query: &Option<Name>, version: VersionNo, edit: bool
         None => true,
         Some(query) => query.denies(version, edit),
     }
+}
+
+/// What the change takes away.
+fn taken_span(change: &Change) -> Span
+    ensures { result ≡ taken_span change.now }
+{
+    Span {
+        start: change.start,
+        len: change.old_len,
+    }
+}
+
+/// Where the change with this index ends in the old text.
+fn end_at(changes: &[Change], index: usize) -> u64
+    requires { index < length changes.now }
+    ensures { result ≡ slice_index (ends changes.now) index }
+{
+    end(taken_span(&changes[index]))
+}
+
+/// How many changes end before the place.
+fn count_ending_before(changes: &[Change], place: u32) -> usize
+    requires normal { (n : ℕ) × AreNormalFrom 0 n changes.now }
+    ensures within { result ≤ length changes.now }
+    ensures before { (k : ℕ) → k < result → slice_index (ends changes.now) k < place }
+    ensures next { result < length changes.now → place ≤ slice_index (ends changes.now) result }
+{
+    let mut low = 0;
+    let mut high = changes.len();
+    while low < high {
+        let middle = low + (high - low) / 2;
+        if end_at(changes, middle) < u64::from(place) {
+            low = middle + 1;
+        } else {
+            high = middle;
+        }
+    }
+    low
 }
 
 impl ReadOnlyRegion {
@@ -133,6 +172,40 @@ impl ReadOnlyRegion {
         } else {
             share_a_unit(self.span, at)
         }
+    }
+
+    /// Whether its query lets it deny.
+    pub(crate) fn may_deny(&self, version: VersionNo, edit: bool, hooks: &Hooks) -> bool
+        ensures { result ≡ query_lets (hook_table hooks.now) self.now.query version edit }
+    {
+        lets_deny(hooks, &self.query, version, edit)
+    }
+
+    /// Whether it forbids the change with this index, its query aside.
+    fn forbids_at(&self, changes: &[Change], index: usize) -> bool
+        ensures { result ≡ forbids_at self.now changes.now index }
+    {
+        match changes.get(index) {
+            None => false,
+            Some(change) => self.forbids(taken_span(change)),
+        }
+    }
+
+    /// The index of the first change that it forbids, its query aside. It looks for the first that
+    /// doesn't end before the region, which may touch it alone; then the next is the first that can be
+    /// forbidden.
+    pub(crate) fn first_forbidden(&self, changes: &[Change]) -> Option<usize>
+        requires normal { (n : ℕ) × AreNormalFrom 0 n changes.now }
+        ensures { result ≡ first_forbidden self.now changes.now }
+    {
+        let first = count_ending_before(changes, self.span.start);
+        if self.forbids_at(changes, first) {
+            return Some(first);
+        }
+        if self.forbids_at(changes, first + 1) {
+            return Some(first + 1);
+        }
+        None
     }
 
     /// Whether it denies what is done at the span.

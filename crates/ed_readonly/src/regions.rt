@@ -4,6 +4,7 @@ ghost use Rattle.ed_base.specs.ChangeList.{new_len, step};
 ghost use Rattle.ed_base.specs.Denial.{denied_at, first_denied, regions_after};
 ghost use Rattle.ed_base.specs.Spans.{end_of};
 ghost use Rattle.ed_callbacks.specs.HookLists.{hook_table};
+ghost use Rattle.ed_readonly.specs.Denied.{denial_by, earlier, first_denial};
 ghost use Rattle.ed_readonly.specs.LiveRegions.{AreKept, EndWithin, is_live, limit_passed, limit_told, numbers, with_region, without_region};
 
 use crate::fault::RegionFault;
@@ -35,6 +36,45 @@ impl Model for Regions {
     ghost view = { λ r. record { regions = r.list.items; given = r.given } };
 
     ghost invariant = { λ r. AreKept (record { regions = r.list.items; given = r.given }) };
+}
+
+/// A change that a region denies, by its index.
+#[derive(Clone, Copy)]
+pub struct Denial {
+    pub index: usize,
+    pub region: RegionNo,
+}
+
+/// The first change that the region denies.
+fn denial_by(
+    region: &ReadOnlyRegion,
+    changes: &Changes,
+    version: VersionNo,
+    hooks: &Hooks,
+) -> Option<Denial>
+    ensures { result ≡ denial_by (hook_table hooks.now) version changes.now.changes region.now }
+{
+    if !region.may_deny(version, true, hooks) {
+        return None;
+    }
+    match region.first_forbidden(changes.as_slice()) {
+        None => None,
+        Some(index) => Some(Denial {
+            index,
+            region: region.number(),
+        }),
+    }
+}
+
+/// The first of two denials, and of those of one change the one that was found before.
+fn earlier(found: Option<Denial>, other: Option<Denial>) -> Option<Denial>
+    ensures { result ≡ earlier found other }
+{
+    match (found, other) {
+        (None, _) => other,
+        (_, None) => found,
+        (Some(a), Some(b)) => { if b.index < a.index { other } else { found } }
+    }
 }
 
 impl Regions {
@@ -162,8 +202,19 @@ impl Regions {
         self.denied_at(span, version, false, hooks)
     }
 
+    /// The first change that one of the regions denies, and the first such region.
+    fn first_denial(&self, changes: &Changes, version: VersionNo, hooks: &Hooks) -> Option<Denial>
+        ensures { result ≡ first_denial (hook_table hooks.now) version changes.now.changes self.now.regions }
+    {
+        let mut first = None;
+        for region in &self.list {
+            first = earlier(first, denial_by(region, changes, version, hooks));
+        }
+        first
+    }
+
     /// The region of lowest number that denies the first denied change of an edit of a version of the
-    /// buffer. It looks at each region at most once a change.
+    /// buffer. It asks each region's query once.
     pub fn first_denied(
         &self,
         changes: &Changes,
@@ -172,15 +223,9 @@ impl Regions {
     ) -> Option<RegionNo>
         ensures { result ≡ first_denied (hook_table hooks.now) self.now.regions version changes.now.changes }
     {
-        for change in changes.as_slice() {
-            let at = Span {
-                start: change.start,
-                len: change.old_len,
-            };
-            if let Some(region) = self.denied_at(at, version, true, hooks) {
-                return Some(region);
-            }
+        match self.first_denial(changes, version, hooks) {
+            None => None,
+            Some(denial) => Some(denial.region),
         }
-        None
     }
 }

@@ -15,4 +15,4 @@ of-requires-clause-fits c = rw (c.in_ok-list.ensures, c.deref.ensures.value) (om
 pub returns : goal.returns
 returns c =
     let is = is_merged c.args.len c.args.replaces.now (map (λ r. r.now) c.in_ok-order.order.items) c.in_ok-order.ensures c.requires.within c.in_ok-list.list.items c.in_ok-changes.changes (rw c.deref.ensures.value at c.in_ok-list.ensures) c.in_ok-changes.ensures in
-    record { normal = is.normal; text = is.text; step = is.step; nothing = is.nothing }
+    record { normal = is.normal; text = is.text; step = is.step; inserted = is.inserted; nothing = is.nothing }
