@@ -6,14 +6,13 @@ use Rattle.ed_base.specs.declared.Span.{Span}
 use Rattle.ed_base.specs.declared.SpanHow.{SpanHow}
 use Rattle.ed_base.specs.Hooks.{HookTable}
 use Rattle.ed_script.specs.declared.Command.{Command}
-use Rattle.ed_entry.specs.declared.Event.{Event}
 use Rattle.ed_entry.specs.declared.Reply.{Reply}
 use Rattle.ed_base.specs.Numbers.{first_some, or_else}
 use Rattle.ed_lines.specs.Lines.{lines}
 use Rattle.ed_machine.specs.State.{State, number_of, text_at}
 use Rattle.ed_machine.specs.Accepted.{answers, accepted, version_or_now, snapshot, changes_at, tracked_to, span_move}
 use Rattle.ed_machine.specs.Refusals.{refusal, tests, no_version, past_version, no_hook, custom_name}
-use Rattle.ed_machine.specs.Step.{step, within_limits, weighed}
+use Rattle.ed_machine.specs.Step.{told, within_limits, weighed}
 use Rattle.ed_core.specs.Within.{IsWithin}
 use Rattle.ed_core.specs.Reading.{reply_unless, read_answer, text_answer, lines_answer, changes_answer, versions_answer, point_answer, span_answer, asked_answer}
 use Rattle.ed_core.proofs.Limits.{told-refused, told-accepted, read-light}
@@ -24,14 +23,14 @@ use Rattle.ed_core.proofs.Limits.{told-refused, told-accepted, read-light}
 abbrev pub OnlyReads : HookTable → State → Command → Type 0
 OnlyReads hooks s command = accepted hooks s command ≡ answers s (accepted hooks s command).reply
 
-by_refusal : (hooks : HookTable) (s : State) (command : Command) (o : Option Refusal) → IsWithin s → OnlyReads hooks s command → refusal hooks s command ≡ o → within_limits s (weighed (answers s (reply_unless o (accepted hooks s command).reply))) ≡ step hooks s (Event.Told command)
+by_refusal : (hooks : HookTable) (s : State) (command : Command) (o : Option Refusal) → IsWithin s → OnlyReads hooks s command → refusal hooks s command ≡ o → within_limits s (weighed (answers s (reply_unless o (accepted hooks s command).reply))) ≡ told hooks s command
 by_refusal hooks s command None within reads e = ap (λ o. within_limits s (weighed o)) (sym reads) ∙ sym (told-accepted hooks s command (accepted hooks s command) e refl)
 by_refusal hooks s command (Some r) within reads e =
     read-light s (Reply.Refused r) within (omega (arith, within.answered))
     ∙ (ap (λ n. record { state = record s { answered = n }; reply = Reply.Refused r }) (add-zero s.answered)
     ∙ sym (told-refused hooks s command r e))
 
-pub read-step : (hooks : HookTable) (s : State) (command : Command) → IsWithin s → OnlyReads hooks s command → within_limits s (weighed (answers s (read_answer hooks s command))) ≡ step hooks s (Event.Told command)
+pub read-step : (hooks : HookTable) (s : State) (command : Command) → IsWithin s → OnlyReads hooks s command → within_limits s (weighed (answers s (read_answer hooks s command))) ≡ told hooks s command
 read-step hooks s command within reads = by_refusal hooks s command (refusal hooks s command) within reads refl
 
 -- ---- what is answered, by the name of the buffer
@@ -77,7 +76,7 @@ module _ (hooks : HookTable) (s : State) (name : List ℕ) (n : ℕ) (found : So
 
 -- ---- the whole step, for each command
 
-pub answered : (hooks : HookTable) (s : State) (command : Command) (reply : Reply) → IsWithin s → OnlyReads hooks s command → reply ≡ read_answer hooks s command → within_limits s (weighed (answers s reply)) ≡ step hooks s (Event.Told command)
+pub answered : (hooks : HookTable) (s : State) (command : Command) (reply : Reply) → IsWithin s → OnlyReads hooks s command → reply ≡ read_answer hooks s command → within_limits s (weighed (answers s reply)) ≡ told hooks s command
 answered hooks s command reply within reads is = ap (λ r. within_limits s (weighed (answers s r))) is ∙ read-step hooks s command within reads
 
 module _ (hooks : HookTable) (s : State) (name : List ℕ) where
@@ -110,5 +109,5 @@ module _ (hooks : HookTable) (s : State) (name : List ℕ) where
   readonly_reads start len = refl
 
 -- the same for a command that is seen in another way
-pub answered_as : (hooks : HookTable) (s : State) (seen command : Command) (reply : Reply) → seen ≡ command → IsWithin s → OnlyReads hooks s command → reply ≡ read_answer hooks s command → within_limits s (weighed (answers s reply)) ≡ step hooks s (Event.Told seen)
-answered_as hooks s seen command reply same within reads is = answered hooks s command reply within reads is ∙ ap (λ c. step hooks s (Event.Told c)) (sym same)
+pub answered_as : (hooks : HookTable) (s : State) (seen command : Command) (reply : Reply) → seen ≡ command → IsWithin s → OnlyReads hooks s command → reply ≡ read_answer hooks s command → within_limits s (weighed (answers s reply)) ≡ told hooks s seen
+answered_as hooks s seen command reply same within reads is = answered hooks s command reply within reads is ∙ ap (λ c. told hooks s c) (sym same)

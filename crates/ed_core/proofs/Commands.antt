@@ -21,13 +21,12 @@ use Rattle.ed_stock.specs.Stock.{Stock}
 use Rattle.ed_stock.specs.Versions.{none_given}
 use Rattle.ed_group.specs.Answers.{edit_landed, with_projection}
 use Rattle.ed_script.specs.declared.kinds.Command.{Command}
-use Rattle.ed_entry.specs.declared.Event.{Event}
 use Rattle.ed_entry.specs.declared.Reply.{Reply}
 use Rattle.ed_machine.specs.State.{State, number_of, record_now, count}
 use Rattle.ed_machine.specs.Naming.{members}
 use Rattle.ed_machine.specs.Accepted.{answers, accepted, made, edited_to, edit_group}
 use Rattle.ed_machine.specs.Refusals.{refusal, tests, wrong_kind, is_base, is_projection, stale, past, past_spans, len_now}
-use Rattle.ed_machine.specs.Step.{step, or_refused}
+use Rattle.ed_machine.specs.Step.{told, or_refused}
 use Rattle.ed_core.specs.Asking.{members_asked, past_members, edit_refusal, spans_refusal, replaces_outcome}
 use Rattle.ed_core.specs.Deciding.{base_outcome, projection_outcome, changes_outcome, edit_outcome, spans_outcome}
 use Rattle.ed_core.specs.Within.{IsWithin}
@@ -68,10 +67,10 @@ module _ (hooks : HookTable) (s : State) (name text : List ℕ) where
   unfolding accepted
   makes = refl
 
-  pub buffer_taken : is_some (number_of s name) ≡ true → step hooks s (Event.Told (Command.Buffer name text)) ≡ answers s (Reply.Refused Refusal.NameTaken)
+  pub buffer_taken : is_some (number_of s name) ≡ true → told hooks s (Command.Buffer name text) ≡ answers s (Reply.Refused Refusal.NameTaken)
   buffer_taken e = told-refused hooks s opening Refusal.NameTaken (taken e)
 
-  pub buffer_step : is_some (number_of s name) ≡ false → IsWithin s → step hooks s (Event.Told (Command.Buffer name text)) ≡ base_outcome s name text
+  pub buffer_step : is_some (number_of s name) ≡ false → IsWithin s → told hooks s (Command.Buffer name text) ≡ base_outcome s name text
   buffer_step e within = decided hooks s opening None (made s name (base text 0)) (free e) makes refl (few-new s.stock (base text 0) None within.regions) within.answered
 
 -- ---- a new projection
@@ -102,16 +101,16 @@ module _ (hooks : HookTable) (s : State) (name : List ℕ) (spans : List ScriptS
   unfolding accepted
   shows = refl
 
-  pub projection_missing : None ≡ members_asked s spans → step hooks s (Event.Told (Command.Projection name spans)) ≡ answers s (Reply.Refused Refusal.NoBuffer)
+  pub projection_missing : None ≡ members_asked s spans → told hooks s (Command.Projection name spans) ≡ answers s (Reply.Refused Refusal.NoBuffer)
   projection_missing none = told-refused hooks s showing Refusal.NoBuffer (unnamed_first none)
 
-  pub projection_taken : (ms : List Member) → Some ms ≡ members_asked s spans → is_some (number_of s name) ≡ true → step hooks s (Event.Told (Command.Projection name spans)) ≡ answers s (Reply.Refused Refusal.NameTaken)
+  pub projection_taken : (ms : List Member) → Some ms ≡ members_asked s spans → is_some (number_of s name) ≡ true → told hooks s (Command.Projection name spans) ≡ answers s (Reply.Refused Refusal.NameTaken)
   projection_taken ms some e = told-refused hooks s showing Refusal.NameTaken (taken_next ms some e)
 
-  pub projection_past : (ms : List Member) (r : Refusal) → Some ms ≡ members_asked s spans → is_some (number_of s name) ≡ false → Some r ≡ past_members s ms → step hooks s (Event.Told (Command.Projection name spans)) ≡ answers s (Reply.Refused r)
+  pub projection_past : (ms : List Member) (r : Refusal) → Some ms ≡ members_asked s spans → is_some (number_of s name) ≡ false → Some r ≡ past_members s ms → told hooks s (Command.Projection name spans) ≡ answers s (Reply.Refused r)
   projection_past ms r some e ends = told-refused hooks s showing r (past_next ms some e ∙ ap (λ o. or_else o (first_some faults)) (sym ends))
 
-  pub projection_step : (ms : List Member) → Some ms ≡ members_asked s spans → is_some (number_of s name) ≡ false → None ≡ past_members s ms → IsWithin s → step hooks s (Event.Told (Command.Projection name spans)) ≡ projection_outcome s name ms
+  pub projection_step : (ms : List Member) → Some ms ≡ members_asked s spans → is_some (number_of s name) ≡ false → None ≡ past_members s ms → IsWithin s → told hooks s (Command.Projection name spans) ≡ projection_outcome s name ms
   projection_step ms some e ends within =
       decided hooks s showing (first_some faults) (made s name (projection_of s.stock shown)) (past_next ms some e ∙ ap (λ o. or_else o (first_some faults)) (sym ends)) shows refl (few-new s.stock (projection_of s.stock shown) None within.regions) within.answered
       ∙ (ap (λ o. or_refused s o (made s name (projection_of s.stock shown))) (behind faults (first_some (stock_limits (with_projection s.stock shown))))
@@ -156,10 +155,10 @@ module _ (hooks : HookTable) (s : State) (name : List ℕ) (replaces : List Repl
     unfolding accepted
     does = rw (← found) refl
 
-    pub edit_refused : (r : Refusal) → Some r ≡ edit_refusal s n at → step hooks s (Event.Told (Command.Edit name replaces at)) ≡ answers s (Reply.Refused r)
+    pub edit_refused : (r : Refusal) → Some r ≡ edit_refusal s n at → told hooks s (Command.Edit name replaces at) ≡ answers s (Reply.Refused r)
     edit_refused r some = told-refused hooks s asked r (there ∙ ap (λ o. or_else o (first_some (ends ∷ denial hooks s.stock pieces ∷ []))) (sym some))
 
-    by_changes : (cs : List Change) → form.changes ≡ cs → None ≡ edit_refusal s n at → IsWithin s → step hooks s (Event.Told asked) ≡ replaces_outcome hooks s n replaces
+    by_changes : (cs : List Change) → form.changes ≡ cs → None ≡ edit_refusal s n at → IsWithin s → told hooks s asked ≡ replaces_outcome hooks s n replaces
     by_changes [] e none within =
         let reason : refusal hooks s asked ≡ or_else ends None = there ∙ (ap (λ o. or_else o (first_some (ends ∷ denial hooks s.stock pieces ∷ []))) (sym none) ∙ ap (λ o. or_else ends (or_else o None)) (ap (λ cs. denial hooks s.stock (pieces_of_changes n cs)) e ∙ nothing-denied hooks s.stock)) in
         let same : changes_outcome hooks s n form ≡ answers s (Reply.Edited []) = rw e refl in
@@ -176,10 +175,10 @@ module _ (hooks : HookTable) (s : State) (name : List ℕ) (replaces : List Repl
         ∙ (sym (or_refused-twice s ends (first_some (denial hooks s.stock pieces ∷ limits ∷ [])) (edited_to s (edit_landed s.stock n form)))
         ∙ ap (or_refused s ends) (sym same)))
 
-    pub edit_step : None ≡ edit_refusal s n at → IsWithin s → step hooks s (Event.Told (Command.Edit name replaces at)) ≡ replaces_outcome hooks s n replaces
+    pub edit_step : None ≡ edit_refusal s n at → IsWithin s → told hooks s (Command.Edit name replaces at) ≡ replaces_outcome hooks s n replaces
     edit_step none within = by_changes form.changes refl none within
 
-  pub edit_missing : None ≡ number_of s name → step hooks s (Event.Told (Command.Edit name replaces at)) ≡ answers s (Reply.Refused Refusal.NoBuffer)
+  pub edit_missing : None ≡ number_of s name → told hooks s (Command.Edit name replaces at) ≡ answers s (Reply.Refused Refusal.NoBuffer)
   edit_missing none = told-refused hooks s asked Refusal.NoBuffer (missing none)
 
 -- ---- replaced members
@@ -199,10 +198,10 @@ module _ (hooks : HookTable) (s : State) (name : List ℕ) (first removed : ℕ)
   unfolding tests
   unnamed_too n found none = rw (← found) (rw (asked-none s spans none) refl)
 
-  pub spans_missing : None ≡ number_of s name → step hooks s (Event.Told (Command.Spans name first removed spans at)) ≡ answers s (Reply.Refused Refusal.NoBuffer)
+  pub spans_missing : None ≡ number_of s name → told hooks s (Command.Spans name first removed spans at) ≡ answers s (Reply.Refused Refusal.NoBuffer)
   spans_missing none = told-refused hooks s replacing Refusal.NoBuffer (nowhere none)
 
-  pub spans_unnamed : (n : ℕ) → Some n ≡ number_of s name → None ≡ members_asked s spans → step hooks s (Event.Told (Command.Spans name first removed spans at)) ≡ answers s (Reply.Refused Refusal.NoBuffer)
+  pub spans_unnamed : (n : ℕ) → Some n ≡ number_of s name → None ≡ members_asked s spans → told hooks s (Command.Spans name first removed spans at) ≡ answers s (Reply.Refused Refusal.NoBuffer)
   spans_unnamed n found none = told-refused hooks s replacing Refusal.NoBuffer (unnamed_too n found none)
 
   module _ (n : ℕ) (found : Some n ≡ number_of s name) (ms : List Member) (some : Some ms ≡ members_asked s spans) where
@@ -223,10 +222,10 @@ module _ (hooks : HookTable) (s : State) (name : List ℕ) (first removed : ℕ)
     unfolding accepted
     replaces = rw (← found) refl
 
-    pub spans_refused : (r : Refusal) → Some r ≡ spans_refusal s n at (first + removed) ms → step hooks s (Event.Told (Command.Spans name first removed spans at)) ≡ answers s (Reply.Refused r)
+    pub spans_refused : (r : Refusal) → Some r ≡ spans_refusal s n at (first + removed) ms → told hooks s (Command.Spans name first removed spans at) ≡ answers s (Reply.Refused r)
     spans_refused r is = told-refused hooks s replacing r (reasons ∙ ap (λ o. or_else o (first_some why)) (sym is))
 
-    pub spans_step : None ≡ spans_refusal s n at (first + removed) ms → IsWithin s → step hooks s (Event.Told (Command.Spans name first removed spans at)) ≡ spans_outcome s n first removed ms
+    pub spans_step : None ≡ spans_refusal s n at (first + removed) ms → IsWithin s → told hooks s (Command.Spans name first removed spans at) ≡ spans_outcome s n first removed ms
     spans_step none within =
         decided hooks s replacing (first_some why) (edited_to s (spans_set s.stock n first removed added)) (reasons ∙ ap (λ o. or_else o (first_some why)) (sym none)) replaces refl (few-kept s.stock (spans_set s.stock n first removed added).stock (keeps-spans_set s.stock n first removed added) within.regions) within.answered
         ∙ (ap (λ o. or_refused s o (edited_to s (spans_set s.stock n first removed added))) (behind why (first_some (stock_limits (spans_set s.stock n first removed added).stock)))
@@ -240,9 +239,9 @@ is-taken s name o is some = ap is_some (sym is) ∙ sym some
 pub is-free : (s : State) (name : List ℕ) (o : Option ℕ) → o ≡ number_of s name → false ≡ is_some o → is_some (number_of s name) ≡ false
 is-free s name o is none = ap is_some (sym is) ∙ sym none
 
-pub same-base : (hooks : HookTable) (s : State) (kept name text units : List ℕ) → kept ≡ name → text ≡ units → is_some (number_of s name) ≡ false → IsWithin s → base_outcome s kept text ≡ (step hooks s (Event.Told (Command.Buffer name units)))
+pub same-base : (hooks : HookTable) (s : State) (kept name text units : List ℕ) → kept ≡ name → text ≡ units → is_some (number_of s name) ≡ false → IsWithin s → base_outcome s kept text ≡ (told hooks s (Command.Buffer name units))
 same-base hooks s kept name text units e f new within = ap (λ n. base_outcome s n text) e ∙ (ap (base_outcome s name) f ∙ sym (buffer_step hooks s name units new within))
 
 pub same-projection : (hooks : HookTable) (s : State) (kept name : List ℕ) (spans : List ScriptSpan) (ms : List Member) → kept ≡ name → Some ms ≡ members_asked s spans → is_some (number_of s name) ≡ false → None ≡ past_members s ms → IsWithin s
-    → projection_outcome s kept ms ≡ step hooks s (Event.Told (Command.Projection name spans))
+    → projection_outcome s kept ms ≡ told hooks s (Command.Projection name spans)
 same-projection hooks s kept name spans ms e some new ends within = ap (λ n. projection_outcome s n ms) e ∙ sym (projection_step hooks s name spans ms some new ends within)

@@ -5,12 +5,11 @@ use Rattle.ed_base.specs.Hooks.{HookTable}
 use Rattle.ed_base.specs.Numbers.{first_some, or_else}
 use Rattle.ed_stock.specs.Limits.{stock_limits}
 use Rattle.ed_script.specs.declared.kinds.Command.{Command}
-use Rattle.ed_entry.specs.declared.Event.{Event}
 use Rattle.ed_machine.specs.State.{State}
 use Rattle.ed_machine.specs.Answers.{weight}
 use Rattle.ed_machine.specs.Accepted.{Outcome, accepted}
 use Rattle.ed_machine.specs.Refusals.{refusal}
-use Rattle.ed_machine.specs.Step.{step, within_limits, weighed, or_refused}
+use Rattle.ed_machine.specs.Step.{told, within_limits, weighed, or_refused}
 use Rattle.ed_core.specs.Within.{HasFewRegions}
 use Rattle.ed_core.proofs.Limits.{told-refused, told-accepted}
 use Rattle.ed_core.proofs.Steps.{light-none, light-some}
@@ -29,6 +28,6 @@ light s o unweighed few answered = by_limit (first_some (stock_limits o.state.st
 
 -- the command is refused for the first of its reasons, or else for a limit of the stock
 pub decided : (hooks : HookTable) (s : State) (command : Command) (r : Option Refusal) (o : Outcome) → refusal hooks s command ≡ r → accepted hooks s command ≡ o → weight o.reply ≡ 0 → HasFewRegions o.state.stock → o.state.answered ≤ 2 ^ 25
-    → step hooks s (Event.Told command) ≡ or_refused s (or_else r (first_some (stock_limits o.state.stock))) o
+    → told hooks s command ≡ or_refused s (or_else r (first_some (stock_limits o.state.stock))) o
 decided hooks s command (Some r) o refused does unweighed few answered = told-refused hooks s command r refused
 decided hooks s command None o refused does unweighed few answered = told-accepted hooks s command o refused does ∙ light s o unweighed few answered

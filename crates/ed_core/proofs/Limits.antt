@@ -6,14 +6,13 @@ use Rattle.ed_base.specs.Hooks.{HookTable}
 use Rattle.ed_base.specs.Numbers.{first_some, or_else}
 use Rattle.ed_stock.specs.Limits.{over, some_over, stock_limits}
 use Rattle.ed_script.specs.declared.kinds.Command.{Command}
-use Rattle.ed_entry.specs.declared.Event.{Event}
 use Rattle.ed_entry.specs.declared.Reply.{Reply}
 use Rattle.ed_machine.specs.State.{State, buffer, graph_order}
 use Rattle.ed_machine.specs.Answers.{weight}
 use Rattle.ed_machine.specs.Accepted.{Outcome, answers, accepted}
 use Rattle.ed_machine.specs.Refusals.{refusal}
 use Rattle.ed_machine.specs.Limits.{limit_fault}
-use Rattle.ed_machine.specs.Step.{step, within_limits, weighed, with_weight, or_refused}
+use Rattle.ed_machine.specs.Step.{told, within_limits, weighed, with_weight, or_refused}
 use Rattle.ed_core.specs.Within.{IsWithin, HasFewRegions}
 use Rattle.ed_core.proofs.Firsts.{first_some-append, some_over-none}
 
@@ -66,12 +65,10 @@ within-none s within = limit-answers s within.regions within.stock ∙ over-none
 abbrev pub heavier : State → Reply → Outcome
 heavier s reply = record { state = with_weight s (weight reply); reply = reply }
 
-pub told-refused : (hooks : HookTable) (s : State) (command : Command) (r : Refusal) → refusal hooks s command ≡ Some r → step hooks s (Event.Told command) ≡ answers s (Reply.Refused r)
-unfolding step
+pub told-refused : (hooks : HookTable) (s : State) (command : Command) (r : Refusal) → refusal hooks s command ≡ Some r → told hooks s command ≡ answers s (Reply.Refused r)
 told-refused hooks s command r e = rw e refl
 
-pub told-accepted : (hooks : HookTable) (s : State) (command : Command) (o : Outcome) → refusal hooks s command ≡ None → accepted hooks s command ≡ o → step hooks s (Event.Told command) ≡ within_limits s (weighed o)
-unfolding step
+pub told-accepted : (hooks : HookTable) (s : State) (command : Command) (o : Outcome) → refusal hooks s command ≡ None → accepted hooks s command ≡ o → told hooks s command ≡ within_limits s (weighed o)
 told-accepted hooks s command o e f = rw (e, f) refl
 
 pub read-light : (s : State) (reply : Reply) → IsWithin s → s.answered + weight reply ≤ 2 ^ 25 → within_limits s (weighed (answers s reply)) ≡ heavier s reply

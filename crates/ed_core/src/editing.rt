@@ -2,12 +2,11 @@
 ghost use Rattle.std.specs.Prelude.{◌≡◌, ◌+◌, ◌<◌, ◌≤◌, ◌^◌, false, length, None, Some, IfOk, OnOk, OnErr};
 ghost use Rattle.ed_base.specs.ChangeList.{inserted_len};
 ghost use Rattle.ed_callbacks.specs.HookLists.{hook_table};
-ghost use Rattle.ed_entry.specs.declared.Event.{Event as Happening};
 ghost use Rattle.ed_group.specs.Laws.{RecordsStay};
 ghost use Rattle.ed_layers.specs.Records.{is_carrier};
 ghost use Rattle.ed_machine.specs.State.{count, record_now, text_now};
 ghost use Rattle.ed_machine.specs.Refusals.{len_now, stale};
-ghost use Rattle.ed_machine.specs.Step.{step};
+ghost use Rattle.ed_machine.specs.Step.{told};
 ghost use Rattle.ed_script.specs.declared.Command.{Command as Told};
 ghost use Rattle.ed_core.specs.Asking.{edit_refusal, form_told, replaces_outcome};
 ghost use Rattle.ed_core.specs.Deciding.{changes_outcome};
@@ -134,8 +133,8 @@ impl Core {
         replaces: &ReplaceList,
         at: &Option<VersionNo>,
     ) -> Result<Reply, OutOfMemory>
-        ensures reply { IfOk result (λ r. r ≡ (step (hook_table hooks.now) self.old (Happening.Told (Told.Edit name.now replaces.now at.now))).reply) }
-        ensures state { OnOk result (self.new ≡ (step (hook_table hooks.now) self.old (Happening.Told (Told.Edit name.now replaces.now at.now))).state) }
+        ensures reply { IfOk result (λ r. r ≡ (told (hook_table hooks.now) self.old (Told.Edit name.now replaces.now at.now)).reply) }
+        ensures state { OnOk result (self.new ≡ (told (hook_table hooks.now) self.old (Told.Edit name.now replaces.now at.now)).state) }
         ensures err { OnErr result (self.new ≡ self.old) }
         ensures stay { RecordsStay self.old.stock self.new.stock }
     {

@@ -2,11 +2,10 @@
 ghost use Rattle.std.specs.Prelude.{◌≡◌, ◌++◌, ◌∷◌, [], None, Some, All, IfOk, OnOk, OnErr, false, is_some, position, take};
 ghost use Rattle.std.specs.Str.{bytes_eq};
 ghost use Rattle.ed_callbacks.specs.HookLists.{hook_table};
-ghost use Rattle.ed_entry.specs.declared.Event.{Event as Happening};
 ghost use Rattle.ed_group.specs.Answers.{LiesIn};
 ghost use Rattle.ed_group.specs.Laws.{RecordsStay};
 ghost use Rattle.ed_machine.specs.State.{number_of};
-ghost use Rattle.ed_machine.specs.Step.{step};
+ghost use Rattle.ed_machine.specs.Step.{told};
 ghost use Rattle.ed_script.specs.declared.Command.{Command as Told};
 ghost use Rattle.ed_core.specs.Deciding.{base_outcome, buffer_told, projection_outcome};
 ghost use Rattle.ed_core.specs.Within.{IsWithin};
@@ -95,8 +94,8 @@ impl Core {
         name: &Name,
         text: &Units,
     ) -> Result<Reply, OutOfMemory>
-        ensures reply { IfOk result (λ r. r ≡ (step (hook_table hooks.now) self.old (Happening.Told (Told.Buffer name.now text.now))).reply) }
-        ensures state { OnOk result (self.new ≡ (step (hook_table hooks.now) self.old (Happening.Told (Told.Buffer name.now text.now))).state) }
+        ensures reply { IfOk result (λ r. r ≡ (told (hook_table hooks.now) self.old (Told.Buffer name.now text.now)).reply) }
+        ensures state { OnOk result (self.new ≡ (told (hook_table hooks.now) self.old (Told.Buffer name.now text.now)).state) }
         ensures err { OnErr result (self.new ≡ self.old) }
         ensures stay { RecordsStay self.old.stock self.new.stock }
     {
@@ -115,8 +114,8 @@ impl Core {
         name: &Name,
         spans: &ScriptSpanList,
     ) -> Result<Reply, OutOfMemory>
-        ensures reply { IfOk result (λ r. r ≡ (step (hook_table hooks.now) self.old (Happening.Told (Told.Projection name.now spans.now))).reply) }
-        ensures state { OnOk result (self.new ≡ (step (hook_table hooks.now) self.old (Happening.Told (Told.Projection name.now spans.now))).state) }
+        ensures reply { IfOk result (λ r. r ≡ (told (hook_table hooks.now) self.old (Told.Projection name.now spans.now)).reply) }
+        ensures state { OnOk result (self.new ≡ (told (hook_table hooks.now) self.old (Told.Projection name.now spans.now)).state) }
         ensures err { OnErr result (self.new ≡ self.old) }
         ensures stay { RecordsStay self.old.stock self.new.stock }
     {

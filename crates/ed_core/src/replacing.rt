@@ -1,12 +1,11 @@
 //! Members of projections that are replaced.
 ghost use Rattle.std.specs.Prelude.{◌≡◌, ◌+◌, ◌<◌, ◌≤◌, true, length, None, All, IfOk, OnOk, OnErr};
 ghost use Rattle.ed_callbacks.specs.HookLists.{hook_table};
-ghost use Rattle.ed_entry.specs.declared.Event.{Event as Happening};
 ghost use Rattle.ed_group.specs.Answers.{LiesIn, members_now};
 ghost use Rattle.ed_group.specs.Laws.{RecordsStay};
 ghost use Rattle.ed_layers.specs.Records.{is_carrier};
 ghost use Rattle.ed_machine.specs.State.{count, record_now};
-ghost use Rattle.ed_machine.specs.Step.{step};
+ghost use Rattle.ed_machine.specs.Step.{told};
 ghost use Rattle.ed_script.specs.declared.Command.{Command as Told};
 ghost use Rattle.ed_core.specs.Asking.{HasSource, spans_refusal};
 ghost use Rattle.ed_core.specs.Deciding.{spans_outcome};
@@ -85,8 +84,8 @@ impl Core {
         spans: &ScriptSpanList,
         at: &Option<VersionNo>,
     ) -> Result<Reply, OutOfMemory>
-        ensures reply { IfOk result (λ r. r ≡ (step (hook_table hooks.now) self.old (Happening.Told (Told.Spans name.now first removed spans.now at.now))).reply) }
-        ensures state { OnOk result (self.new ≡ (step (hook_table hooks.now) self.old (Happening.Told (Told.Spans name.now first removed spans.now at.now))).state) }
+        ensures reply { IfOk result (λ r. r ≡ (told (hook_table hooks.now) self.old (Told.Spans name.now first removed spans.now at.now)).reply) }
+        ensures state { OnOk result (self.new ≡ (told (hook_table hooks.now) self.old (Told.Spans name.now first removed spans.now at.now)).state) }
         ensures err { OnErr result (self.new ≡ self.old) }
         ensures stay { RecordsStay self.old.stock self.new.stock }
     {

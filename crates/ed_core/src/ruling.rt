@@ -4,10 +4,9 @@ ghost use Rattle.std.specs.List.{list_any};
 ghost use Rattle.ed_base.specs.Spans.{end_of};
 ghost use Rattle.ed_layers.specs.Records.{is_carrier};
 ghost use Rattle.ed_machine.specs.State.{count, record_now, text_now, buffer as buffer_of};
-ghost use Rattle.ed_machine.specs.Step.{step, within_limits, weighed};
+ghost use Rattle.ed_machine.specs.Step.{told, within_limits, weighed};
 ghost use Rattle.ed_machine.specs.Refusals.{no_hook};
 ghost use Rattle.ed_callbacks.specs.HookLists.{hook_table};
-ghost use Rattle.ed_entry.specs.declared.Event.{Event as Happening};
 ghost use Rattle.ed_group.specs.Laws.{RecordsStay};
 ghost use Rattle.ed_script.specs.declared.Command.{Command as Told};
 ghost use Rattle.ed_readonly.specs.declared.RegionFault.{RegionFault as Fault};
@@ -93,8 +92,8 @@ impl Core {
         mode: SpanMode,
         query: &Option<Name>,
     ) -> Result<Reply, OutOfMemory>
-        ensures reply { IfOk result (λ r. r ≡ (step (hook_table hooks.now) self.old (Happening.Told (Told.Region name.now span.start span.len edge mode query.now))).reply) }
-        ensures state { OnOk result (self.new ≡ (step (hook_table hooks.now) self.old (Happening.Told (Told.Region name.now span.start span.len edge mode query.now))).state) }
+        ensures reply { IfOk result (λ r. r ≡ (told (hook_table hooks.now) self.old (Told.Region name.now span.start span.len edge mode query.now)).reply) }
+        ensures state { OnOk result (self.new ≡ (told (hook_table hooks.now) self.old (Told.Region name.now span.start span.len edge mode query.now)).state) }
         ensures err { OnErr result (self.new ≡ self.old) }
         ensures stay { RecordsStay self.old.stock self.new.stock }
     {
@@ -144,8 +143,8 @@ impl Core {
 
     /// Removes a read-only region of a base.
     pub(crate) fn remove_region(&mut self, hooks: &Hooks, name: &Name, region: RegionNo) -> Reply
-        ensures reply { result ≡ (step (hook_table hooks.now) self.old (Happening.Told (Told.Unregion name.now region))).reply }
-        ensures state { self.new ≡ (step (hook_table hooks.now) self.old (Happening.Told (Told.Unregion name.now region))).state }
+        ensures reply { result ≡ (told (hook_table hooks.now) self.old (Told.Unregion name.now region)).reply }
+        ensures state { self.new ≡ (told (hook_table hooks.now) self.old (Told.Unregion name.now region)).state }
         ensures stay { RecordsStay self.old.stock self.new.stock }
     {
         let Some(buffer) = self.number_of(name) else {

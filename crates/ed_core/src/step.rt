@@ -1,9 +1,8 @@
 //! What an event does.
 ghost use Rattle.std.specs.Prelude.{◌≡◌, IfOk, OnOk, OnErr};
 ghost use Rattle.ed_callbacks.specs.HookLists.{hook_table};
-ghost use Rattle.ed_entry.specs.declared.Event.{Event as Happening};
 ghost use Rattle.ed_group.specs.Laws.{CurrentVector, OneVector, RecordsStay};
-ghost use Rattle.ed_machine.specs.Step.{step};
+ghost use Rattle.ed_machine.specs.Step.{step, told};
 
 use crate::state::Core;
 use ed_base::{OutOfMemory, Span};
@@ -20,8 +19,8 @@ impl Core {
         hooks: &Hooks,
         command: &Command,
     ) -> Result<Reply, OutOfMemory>
-        ensures reply { IfOk result (λ r. r ≡ (step (hook_table hooks.now) self.old (Happening.Told command.now)).reply) }
-        ensures state { OnOk result (self.new ≡ (step (hook_table hooks.now) self.old (Happening.Told command.now)).state) }
+        ensures reply { IfOk result (λ r. r ≡ (told (hook_table hooks.now) self.old command.now).reply) }
+        ensures state { OnOk result (self.new ≡ (told (hook_table hooks.now) self.old command.now).state) }
         ensures err { OnErr result (self.new ≡ self.old) }
         ensures stay { RecordsStay self.old.stock self.new.stock }
     {
