@@ -3,7 +3,7 @@ ghost use Rattle.std.specs.Prelude.{◌≡◌, ◌-◌, ◌<◌, ◌≤◌, leng
 ghost use Rattle.ed_base.specs.Spans.{end_of};
 ghost use Rattle.ed_stock.specs.Stock.{count, text_now};
 ghost use Rattle.ed_group.specs.Answers.{LiesIn};
-ghost use Rattle.ed_group.specs.Seen.{stock};
+ghost use Rattle.ed_held.specs.Seen.{stock};
 
 mod counters;
 mod edits;

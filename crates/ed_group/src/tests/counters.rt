@@ -1,14 +1,14 @@
 //! The numbers that are limited over all buffers, beside a count made anew.
 ghost use Rattle.std.specs.Prelude.{◌≡◌, ◌+◌, ◌<◌, length};
-ghost use Rattle.ed_group.specs.Seen.{known};
+ghost use Rattle.ed_held.specs.Seen.{known};
 
 use super::edits::edits;
 use super::spans::replaces;
 use super::{Part, stocked};
 use crate::Stock;
 use crate::counts::Counts;
-use crate::held::Held;
 use ed_base::{Changes, Member, VersionNo};
+use ed_held::Held;
 use ed_members::Members;
 use ed_text::Text;
 use std::alloc::Global;

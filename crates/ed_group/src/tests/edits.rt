@@ -3,7 +3,7 @@ ghost use Rattle.std.specs.Prelude.{◌≡◌, ◌+◌, ◌<◌, ◌≤◌, ◌^
 ghost use Rattle.ed_base.specs.ChangeList.{inserted_len};
 ghost use Rattle.ed_layers.specs.Records.{is_carrier};
 ghost use Rattle.ed_stock.specs.Stock.{count, record_now, text_now};
-ghost use Rattle.ed_group.specs.Seen.{stock};
+ghost use Rattle.ed_held.specs.Seen.{stock};
 
 use super::{Made, Part, are_made, are_now, denied, is_refused, number_of, region, stocked, units};
 use crate::Stock;

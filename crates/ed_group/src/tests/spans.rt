@@ -3,7 +3,7 @@ ghost use Rattle.std.specs.Prelude.{◌≡◌, ◌+◌, ◌<◌, ◌≤◌, true
 ghost use Rattle.ed_layers.specs.Records.{is_carrier};
 ghost use Rattle.ed_stock.specs.Stock.{count, record_now};
 ghost use Rattle.ed_group.specs.Answers.{members_now};
-ghost use Rattle.ed_group.specs.Seen.{stock};
+ghost use Rattle.ed_held.specs.Seen.{stock};
 
 use super::edits::{came_by, edits};
 use super::{

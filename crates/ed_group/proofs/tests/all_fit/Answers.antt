@@ -1,12 +1,11 @@
 -- Each member looked at lies in its source.
 use Rattle.std.proofs.Common.{arith, rules, subst}
-use Rattle.std.proofs.lemmas.List.{take_all}
+use Rattle.std.proofs.lemmas.List.{take_all, get_or_read}
 use Rattle.ed_base.specs.declared.Member.{Member}
 use Rattle.std.specs.Prelude.{All, []}
-use Rattle.std.proofs.lemmas.List.{get_or_read}
 use Rattle.std.proofs.lemmas.List.Elements.{All-more}
 use Rattle.ed_group.specs.Answers.{LiesIn}
-use Rattle.ed_group.specs.Seen.{stock}
+use Rattle.ed_held.specs.Seen.{stock}
 use Rattle.ed_group.proofs.tests.all_fit.Goals as goal
 
 pub returns : goal.returns
