@@ -9,9 +9,9 @@ use Rattle.ed_stock.specs.Versions.{with_version}
 use Rattle.ed_group.specs.Counted.{AreCounts, counts_after, counts_with}
 use Rattle.ed_risen.specs.Counting.{tracked_in}
 use Rattle.ed_risen.specs.Growing.{Grows}
-use Rattle.ed_group.specs.Moves.{changes_of, record_of, with_move}
+use Rattle.ed_held.specs.Moves.{changes_of, record_of, with_move}
 use Rattle.ed_group.specs.declared.counts.Counts.{Counts}
-use Rattle.ed_group.specs.declared.moves.Move.{Move}
+use Rattle.ed_held.specs.declared.moves.Move.{Move}
 use Rattle.ed_risen.proofs.Counting.{inserted_with, placements_with, versions_with}
 use Rattle.ed_risen.proofs.Growth.{grown_length, version_grows}
 

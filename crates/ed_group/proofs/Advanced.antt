@@ -10,11 +10,11 @@ use Rattle.ed_members.specs.Moving.{EndsInNew}
 use Rattle.ed_project.specs.Records.{Projection, Next, IsUnchanged}
 use Rattle.ed_project.specs.declared.ProjectionFault.{ProjectionFault}
 use Rattle.ed_version.specs.declared.Snapshot.{Snapshot}
-use Rattle.ed_group.specs.declared.held.Held.{Held}
-use Rattle.ed_group.specs.declared.moves.Move.{Move}
-use Rattle.ed_group.specs.Advancing.{CanAdvanceHeld, HasAdvanced, members_next}
+use Rattle.ed_held.specs.declared.held.Held.{Held}
+use Rattle.ed_held.specs.declared.moves.Move.{Move}
+use Rattle.ed_held.specs.Advancing.{CanAdvanceHeld, HasAdvanced, members_next}
 use Rattle.ed_group.specs.Climbing.{CanRise, HasRisen, source_snapshots}
-use Rattle.ed_group.specs.Seen.{known}
+use Rattle.ed_held.specs.Seen.{known}
 
 pub get_index : {X : Type 0} (xs : List X) (i : ℕ) (d : X) → i < length xs → slice_get xs i ≡ Some (slice_index_or xs i d)
 get_index [] i d h = absurd (omega arith)

@@ -17,14 +17,14 @@ use Rattle.ed_stock.specs.Limits.{inserted, over, placements, some_over, stock_l
 use Rattle.ed_stock.specs.Stock.{Stock, Buffer, buffer, count, graph_order, record_now, reiterated_in, text_at, text_now}
 use Rattle.ed_version.specs.declared.Version.{Version}
 use Rattle.ed_group.specs.declared.counts.Counts.{Counts}
-use Rattle.ed_group.specs.declared.held.Held.{Held}
-use Rattle.ed_group.specs.Asking.{IsBase}
+use Rattle.ed_held.specs.declared.held.Held.{Held}
+use Rattle.ed_held.specs.Asking.{IsBase}
 use Rattle.ed_group.specs.Kept.{IsKept}
-use Rattle.ed_group.specs.Seen.{base_record, known, last_of, reiterated_of, stock, text_of}
+use Rattle.ed_held.specs.Seen.{base_record, known, last_of, reiterated_of, stock, text_of}
 use Rattle.ed_group.proofs.Advanced.{element}
 use Rattle.ed_risen.proofs.Growth.{missing}
 use Rattle.ed_risen.proofs.RisingLemmas.{get_last}
-use Rattle.ed_group.proofs.Snapshots.{get_map}
+use Rattle.ed_risen.proofs.Lists.{get_map}
 
 -- ---- within the limits
 
@@ -93,56 +93,7 @@ module _ (hs : List Held) (graph : List (List ℕ)) (counts : Counts) (kept : Is
 
 -- ---- current records
 
-pub base_last : (vs : List Version) (i : ℕ) → is_carrier (unwrap_or (slice_get (map base_record vs) i) (base [] 0)) ≡ false
-base_last [] i = refl
-base_last (v ∷ vs) zero = refl
-base_last (v ∷ vs) (suc i) = base_last vs i
-
-pub base_members : (vs : List Version) (i : ℕ) → members_of (unwrap_or (slice_get (map base_record vs) i) (base [] 0)) ≡ []
-base_members [] i = refl
-base_members (v ∷ vs) zero = refl
-base_members (v ∷ vs) (suc i) = base_members vs i
-
-pub projection_last : (p : Projection) (turns : ℕ) → 0 < length p.versions → last_of (known (Held.Projection p turns)).buffer ≡ record_of (shown_now p)
-projection_last p turns some =
-    ap (λ n. unwrap_or (slice_get (map record_of p.versions) (n - 1)) (base [] 0)) (length-map p.versions record_of)
-    ∙ ap (λ o. unwrap_or o (base [] 0)) (get_map record_of p.versions (length p.versions - 1) (shown_now p) (get_last p.versions some (shown [] [] [])))
-
-pub base_held : (h : Held) → 0 < length (known h).buffer.records → is_carrier (last_of (known h).buffer) ≡ false → IsBase h
-base_held (Held.Base x) some bare = tt
-base_held (Held.Projection p turns) some bare = absurd (let e : is_carrier (last_of (known (Held.Projection p turns)).buffer) ≡ true = ap is_carrier (projection_last p turns (omega (arith, some, length-map p.versions record_of))) in cc)
-
-pub texts_count : (h : Held) → length (known h).texts ≡ length (known h).buffer.records
-texts_count (Held.Base x) = length-map x.chain.versions _ ∙ sym (length-map x.chain.versions _)
-texts_count (Held.Projection p turns) = length-map p.versions _ ∙ sym (length-map p.versions _)
-
 -- ---- numbers that are repeated
-
-by_place : {X : Type 0} (f : X → ℕ) (at : ℕ → ℕ) (k : ℕ) (xs : List X) → ((i : ℕ) (x : X) → slice_get xs i ≡ Some x → at (k + i) ≡ f x) → map f xs ≡ map at (range_with_len k (length xs))
-by_place f at k [] h = refl
-by_place f at k (x ∷ xs) h =
-    ap (λ y. y ∷ map f xs) (sym (ap at (let e : k ≡ k + 0 = omega arith in e) ∙ h 0 x refl))
-    ∙ ap (λ ys. at k ∷ ys) (by_place f at (k + 1) xs (λ i y is. ap at (let e : k + 1 + i ≡ k + suc i = omega arith in e) ∙ h (suc i) y is))
-
-pub base_repeats : (x : Buffer) (vs : List Version) → x.records ≡ map base_record vs → map (λ v. v.reiterated) vs ≡ map (reiterated_of x) (places (length x.records))
-base_repeats x vs is =
-    by_place (λ v. v.reiterated) (reiterated_of x) 0 vs (λ i v there. ap (reiterated_of x) (let e : 0 + i ≡ i = omega arith in e) ∙ ap (λ rs. option_map_or (λ r. reiterated_in r i) (slice_get rs i) i) is
-    ∙ ap (λ o. option_map_or (λ r. reiterated_in r i) o i) (get_map base_record vs i v there))
-    ∙ ap (λ n. map (reiterated_of x) (places n)) (sym (ap length is ∙ length-map vs base_record))
-
-itself_at : (vs : List Shown) (i j : ℕ) → option_map_or (λ r. reiterated_in r j) (slice_get (map record_of vs) i) j ≡ j
-itself_at [] i j = refl
-itself_at (v ∷ vs) zero j = refl
-itself_at (v ∷ vs) (suc i) j = itself_at vs i j
-
-map_itself : (at : ℕ → ℕ) (xs : List ℕ) → ((i : ℕ) → at i ≡ i) → xs ≡ map at xs
-map_itself at [] h = refl
-map_itself at (x ∷ xs) h = ap (λ ys. x ∷ ys) (map_itself at xs h) ∙ ap (λ y. y ∷ map at xs) (sym (h x))
-
-pub projection_repeats : (x : Buffer) (vs : List Shown) → x.records ≡ map record_of vs → places (length vs) ≡ map (reiterated_of x) (places (length x.records))
-projection_repeats x vs is =
-    map_itself (reiterated_of x) (places (length vs)) (λ i. ap (λ rs. option_map_or (λ r. reiterated_in r i) (slice_get rs i) i) is ∙ itself_at vs i i)
-    ∙ ap (λ n. map (reiterated_of x) (places n)) (sym (ap length is ∙ length-map vs record_of))
 
 -- a buffer that is there is held
 pub held_there : (hs : List Held) (b : ℕ) → b < length hs → (h : Held) × (slice_get hs b ≡ Some h)

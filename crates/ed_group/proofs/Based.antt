@@ -18,10 +18,10 @@ use Rattle.ed_version.specs.declared.Version.{Version}
 use Rattle.ed_group.specs.Answers.{Refuses, base_fault, with_base}
 use Rattle.ed_group.specs.declared.counts.Counts.{Counts}
 use Rattle.ed_group.specs.declared.fault.PlanFault.{PlanFault}
-use Rattle.ed_group.specs.declared.held.Held.{Held}
+use Rattle.ed_held.specs.declared.held.Held.{Held}
 use Rattle.ed_group.specs.Kept.{IsKept}
 use Rattle.ed_group.specs.Limited.{new_limit, passed}
-use Rattle.ed_group.specs.Seen.{Known, base_record, known, stock, stock_of}
+use Rattle.ed_held.specs.Seen.{Known, base_record, known, stock, stock_of}
 use Rattle.ed_risen.proofs.Counting.{inserted_new_base, new_buffer, placements_new, versions_new}
 use Rattle.ed_risen.proofs.Growth.{grown_last, grown_now, missing}
 use Rattle.ed_risen.proofs.Lists.{get_past}

@@ -23,13 +23,14 @@ use Rattle.ed_group.specs.Answers.{LiesIn, Refuses, members_now, spans_fault}
 use Rattle.ed_group.specs.Begun.{HasBegunSpans}
 use Rattle.ed_group.specs.declared.counts.Counts.{Counts}
 use Rattle.ed_group.specs.declared.fault.PlanFault.{PlanFault}
-use Rattle.ed_group.specs.declared.held.Held.{Held}
+use Rattle.ed_held.specs.declared.held.Held.{Held}
 use Rattle.ed_group.specs.Kept.{IsKept}
 use Rattle.ed_group.specs.Limited.{passed}
-use Rattle.ed_group.specs.Seen.{known, seen, stock}
-use Rattle.ed_group.specs.Spanning.{CanRespan, HasRespanned, HasReshown, Shows, held_members, spans_first, spans_route}
+use Rattle.ed_held.specs.Seen.{known, seen, stock}
+use Rattle.ed_held.specs.Respanning.{CanRespan, HasRespanned, Shows, held_members}
+use Rattle.ed_group.specs.Spanning.{HasReshown, spans_first, spans_route}
 use Rattle.ed_group.proofs.Advanced.{same_known}
-use Rattle.ed_group.proofs.Asked.{base_last}
+use Rattle.ed_held.proofs.KindLemmas.{base_last}
 use Rattle.ed_group.proofs.Based.{held_count, held_len, refuses_this}
 use Rattle.ed_risen.proofs.Lists.{among_itself, clash}
 use Rattle.ed_group.proofs.Respanned.{linked_here, linked_len, linked_other, shown_lies}

@@ -7,12 +7,12 @@ use Rattle.ed_base.specs.Hooks.{HookTable}
 use Rattle.ed_buffer.specs.Planning.{Answers, Base, IsUnchanged, NextVersion, fault_of}
 use Rattle.ed_buffer.specs.declared.BaseFault.{BaseFault}
 use Rattle.ed_group.specs.Editing.{HasBegunEdit, told_fault}
-use Rattle.ed_group.specs.Landing.{HasLanded}
-use Rattle.ed_group.specs.Seen.{known}
+use Rattle.ed_held.specs.Landing.{HasLanded}
+use Rattle.ed_held.specs.Seen.{known}
 use Rattle.ed_group.specs.declared.fault.PlanFault.{PlanFault}
-use Rattle.ed_group.specs.declared.held.Held.{Held}
-use Rattle.ed_group.specs.declared.moves.Move.{Move}
-use Rattle.ed_group.specs.declared.moves.Planned.{Planned}
+use Rattle.ed_held.specs.declared.held.Held.{Held}
+use Rattle.ed_held.specs.declared.moves.Move.{Move}
+use Rattle.ed_held.specs.declared.moves.Planned.{Planned}
 use Rattle.ed_group.proofs.Advanced.{map_set}
 use Rattle.ed_risen.proofs.Turns.{turns}
 

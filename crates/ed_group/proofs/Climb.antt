@@ -21,17 +21,17 @@ use Rattle.ed_project.specs.declared.Shown.{Shown}
 use Rattle.ed_project.specs.Texts.{HasSource, text_in, text_over, versions_of}
 use Rattle.ed_stock.specs.Stock.{Stock, Buffer, buffer, now, record_at, record_now, text_at, text_now, count, with_buffer}
 use Rattle.ed_stock.specs.Versions.{Rising, step_in, at_now, is_moved, risen_at, none_given, next_record, with_record, with_version}
-use Rattle.ed_group.specs.declared.held.Held.{Held}
-use Rattle.ed_group.specs.declared.moves.Move.{Move}
-use Rattle.ed_group.specs.declared.moves.Planned.{Planned}
-use Rattle.ed_group.specs.Advancing.{IsNextOf}
-use Rattle.ed_group.specs.Climbing.{CanRise, is_over, sources_held, source_snapshots}
+use Rattle.ed_held.specs.declared.held.Held.{Held}
+use Rattle.ed_held.specs.declared.moves.Move.{Move}
+use Rattle.ed_held.specs.declared.moves.Planned.{Planned}
+use Rattle.ed_held.specs.Advancing.{IsNextOf, sources_held}
+use Rattle.ed_group.specs.Climbing.{CanRise, is_over, source_snapshots}
 use Rattle.ed_risen.specs.Founded.{Founded, Extends}
 use Rattle.ed_risen.specs.Growing.{Grows}
-use Rattle.ed_group.specs.Moves.{AreApart, IsPlannedAt, CanMake, changes_of, move_of, move_seen, rising_of, snapshot_after, with_move}
+use Rattle.ed_held.specs.Moves.{AreApart, IsPlannedAt, CanMake, changes_of, move_of, move_seen, rising_of, snapshot_after, with_move}
 use Rattle.ed_risen.specs.Rising.{EndsIn, Inside, IsLow, IsSettled, Rises, plain}
 use Rattle.ed_group.specs.Route.{AreTrue, Climbs, IsNewest, IsReached, IsRoute, Route, newest}
-use Rattle.ed_group.specs.Seen.{base_record, known, seen, stock, stock_of, Known}
+use Rattle.ed_held.specs.Seen.{base_record, known, seen, stock, stock_of, Known}
 use Rattle.ed_version.specs.declared.Version.{Version}
 use Rattle.ed_version.specs.declared.Snapshot.{Snapshot}
 use Rattle.ed_group.proofs.Advanced.{map_set, same_known}
@@ -42,8 +42,8 @@ use Rattle.ed_risen.proofs.Lengths.{ArePlain, length_slots, plain_trails, step_i
 use Rattle.ed_risen.proofs.Texts.{named_text, projection_text, same_text}
 use Rattle.ed_group.proofs.Moved.{any_moved, step_of_move}
 use Rattle.ed_risen.proofs.RisingLemmas.{at_now_each, get_last, levels, other_than, same_record, some_records, stays, steps, unmoved_text}
-use Rattle.ed_group.proofs.Snapshots.{found_buffer, found_each, get_map, have_sources, held_buffer, held_record, members_inside, newest_same, owns_in_order, owns_inside, snaps, snaps_text, snaps_versions, snapshot_is, within_old}
-use Rattle.ed_risen.proofs.Lists.{each_of, among_itself, among_last, among_more, among_push, any_same, each_push, fold_push, got, push_among}
+use Rattle.ed_group.proofs.Snapshots.{found_buffer, found_each, have_sources, held_buffer, held_record, members_inside, newest_same, owns_in_order, owns_inside, snaps, snaps_text, snaps_versions, snapshot_is, within_old}
+use Rattle.ed_risen.proofs.Lists.{get_map, each_of, among_itself, among_last, among_more, among_push, any_same, each_push, fold_push, got, push_among}
 use Rattle.ed_risen.proofs.Turns.{rests}
 
 -- ---- small ones

@@ -15,20 +15,22 @@ use Rattle.ed_version.specs.declared.Version.{Version}
 use Rattle.ed_project.specs.declared.Shown.{Shown}
 use Rattle.ed_stock.specs.Stock.{Stock, Buffer, buffer, record_at, with_buffer}
 use Rattle.ed_stock.specs.Versions.{with_version}
-use Rattle.ed_group.specs.declared.held.Held.{Held}
-use Rattle.ed_group.specs.declared.moves.Move.{Move}
-use Rattle.ed_group.specs.declared.moves.Planned.{Planned}
-use Rattle.ed_group.specs.Group.{Plan, IsPlanned, known_after, known_grown, known_made, known_moved, known_turned, outcome, set_known, IsProjection, MayTurn}
+use Rattle.ed_held.specs.declared.held.Held.{Held}
+use Rattle.ed_held.specs.declared.moves.Move.{Move}
+use Rattle.ed_held.specs.declared.moves.Planned.{Planned}
+use Rattle.ed_group.specs.Group.{Plan, IsPlanned, known_after, known_made, known_moved, outcome, set_known, MayTurn}
+use Rattle.ed_held.specs.Making.{known_grown, known_turned, IsProjection}
 use Rattle.ed_risen.specs.Counting.{turn, turned_in}
 use Rattle.ed_group.specs.Kept.{IsKept}
 use Rattle.ed_risen.specs.Laws.{CurrentVector, OneVector, RecordsStay}
-use Rattle.ed_group.specs.Moves.{CanMake, IsPlannedAt, changes_of, record_of, with_move}
+use Rattle.ed_held.specs.Moves.{CanMake, IsPlannedAt, changes_of, record_of, with_move}
 use Rattle.ed_risen.specs.Rising.{IsSettled}
-use Rattle.ed_group.specs.Seen.{Known, base_record, known, stock, stock_of}
+use Rattle.ed_held.specs.Seen.{Known, base_record, known, stock, stock_of}
 use Rattle.ed_risen.proofs.Settled.{current_vector, records_stay}
 use Rattle.ed_risen.proofs.Growth.{missing, set_here, set_other}
-use Rattle.ed_group.proofs.Snapshots.{get_map}
+use Rattle.ed_risen.proofs.Lists.{get_map}
 use Rattle.ed_risen.proofs.RisingLemmas.{stays}
+use Rattle.ed_risen.proofs.Turns.{turns}
 
 -- ---- what is known of one buffer, changed
 
@@ -85,23 +87,6 @@ pub matched_below : {X : Type 0} (P : X → Type 0) (xs : List X) (b : ℕ) → 
 matched_below P [] b h = absurd h
 matched_below P (x ∷ xs) zero h = omega arith
 matched_below P (x ∷ xs) (suc b) h = let l : b < length xs = matched_below P xs b h in omega arith
-
-abbrev text_in : Version → List ℕ
-text_in v = v.text
-
-abbrev text_shown : Shown → List ℕ
-text_shown v = v.text
-
--- one version more of a base, and of a projection
-pub base_grown : (x y : Base) (s : NextVersion) (m : Move) → m.planned ≡ Planned.Base s → y.chain.buffer ≡ x.chain.buffer → y.chain.versions ≡ x.chain.versions ++ version s.snapshot.text s.reiterated ∷ [] → y.chain.changes ≡ x.chain.changes ++ s.changes ∷ []
-    → y.regions.regions ≡ regions_after (step s.changes) x.regions.regions → y.regions.given ≡ x.regions.given → known (Held.Base y) ≡ known_grown (known (Held.Base x)) m
-base_grown x y s m is number versions changes regions given =
-    rw (is, number, versions, changes, regions, given, map-append base_record x.chain.versions (version s.snapshot.text s.reiterated ∷ []), map-append text_in x.chain.versions (version s.snapshot.text s.reiterated ∷ [])) refl
-
-pub projection_grown : (p q : Projection) (turns : ℕ) (n : Next) (m : Move) → m.planned ≡ Planned.Projection n → q.buffer ≡ p.buffer → q.versions ≡ p.versions ++ shown n.members n.sources n.snapshot.text ∷ [] → q.changes ≡ p.changes ++ n.changes ∷ []
-    → q.resolver ≡ p.resolver → known (Held.Projection q turns) ≡ known_grown (known (Held.Projection p turns)) m
-projection_grown p q turns n m is number versions changes resolver =
-    rw (is, number, versions, changes, resolver, map-append shown_record p.versions (shown n.members n.sources n.snapshot.text ∷ []), map-append text_shown p.versions (shown n.members n.sources n.snapshot.text ∷ [])) refl
 
 -- a version that was planned of one buffer stays so while others are changed
 pub each_stays : (hs hs' : List Held) (m : Move) (ms : List Move) → ((b : ℕ) → m.buffer ≢ b → slice_get hs' b ≡ slice_get hs b) → Each (λ n. n.buffer ≢ m.buffer) ms → Each (IsPlannedAt hs) ms → Each (IsPlannedAt hs') ms

@@ -3,7 +3,7 @@ use Rattle.std.proofs.Common.{[], refl, arith}
 use Rattle.ed_layers.specs.Graph.{graph_order}
 use Rattle.ed_group.specs.Kept.{IsKept}
 use Rattle.ed_risen.specs.Rising.{IsSettled}
-use Rattle.ed_group.specs.Seen.{stock_of}
+use Rattle.ed_held.specs.Seen.{stock_of}
 
 settled_empty : IsSettled (stock_of [])
 settled_empty = record {

@@ -23,16 +23,17 @@ use Rattle.ed_group.specs.declared.beginning.FirstMoves.{FirstMoves}
 use Rattle.ed_members.specs.Steps.{step_seen}
 use Rattle.ed_group.specs.Counted.{AreCounts, counts_after, told}
 use Rattle.ed_group.specs.Editing.{carried_fault}
-use Rattle.ed_group.specs.Group.{IsPlanned, IsProjection, MayTurn, Plan, known_after, known_made, known_moved, known_turned, outcome, set_known}
+use Rattle.ed_group.specs.Group.{IsPlanned, MayTurn, Plan, known_after, known_made, known_moved, outcome, set_known}
+use Rattle.ed_held.specs.Making.{IsProjection, known_turned}
 use Rattle.ed_group.specs.Kept.{IsKept}
 use Rattle.ed_group.specs.Limited.{limit_of}
-use Rattle.ed_group.specs.Moves.{AreApart, IsPlannedAt, move_seen, rising_of, with_move}
+use Rattle.ed_held.specs.Moves.{AreApart, IsPlannedAt, move_seen, rising_of, with_move}
 use Rattle.ed_group.specs.Route.{AreTrue, Climbs, HasClimbed, IsRoute, IsTooLong, Route}
-use Rattle.ed_group.specs.Seen.{Known, known, stock, stock_of, seen}
+use Rattle.ed_held.specs.Seen.{Known, known, stock, stock_of, seen}
 use Rattle.ed_group.specs.declared.counts.Counts.{Counts}
 use Rattle.ed_group.specs.declared.fault.PlanFault.{PlanFault}
-use Rattle.ed_group.specs.declared.held.Held.{Held}
-use Rattle.ed_group.specs.declared.moves.Move.{Move}
+use Rattle.ed_held.specs.declared.held.Held.{Held}
+use Rattle.ed_held.specs.declared.moves.Move.{Move}
 use Rattle.ed_risen.proofs.FoundedLemmas.{each_weaker}
 use Rattle.ed_risen.proofs.Limits.{few_buffers, not_elision, plain_inside, units_fit}
 use Rattle.ed_risen.proofs.MemberCounts.{as_many}

@@ -12,16 +12,17 @@ use Rattle.ed_stock.specs.Stock.{Stock, Buffer, buffer, count, now, record_at, s
 use Rattle.ed_stock.specs.Versions.{Rising}
 use Rattle.ed_version.specs.declared.Snapshot.{Snapshot}
 use Rattle.ed_group.specs.Counted.{AreCounts}
-use Rattle.ed_group.specs.Group.{known_grown, known_moved, set_known}
+use Rattle.ed_held.specs.Making.{known_grown}
+use Rattle.ed_group.specs.Group.{known_moved, set_known}
 use Rattle.ed_group.specs.Kept.{IsKept}
 use Rattle.ed_risen.specs.Laws.{OneVector}
-use Rattle.ed_group.specs.Moves.{AreApart, changes_of, move_of, rising_of, snapshot_of, with_move}
+use Rattle.ed_held.specs.Moves.{AreApart, changes_of, move_of, rising_of, snapshot_of, with_move}
 use Rattle.ed_risen.specs.Rising.{HasStepped, IsSettled, Rises, plain}
 use Rattle.ed_group.specs.Route.{IsNewest, newest}
-use Rattle.ed_group.specs.Seen.{Known, known, stock, stock_of}
+use Rattle.ed_held.specs.Seen.{Known, known, stock, stock_of}
 use Rattle.ed_group.specs.declared.counts.Counts.{Counts}
-use Rattle.ed_group.specs.declared.held.Held.{Held}
-use Rattle.ed_group.specs.declared.moves.Move.{Move}
+use Rattle.ed_held.specs.declared.held.Held.{Held}
+use Rattle.ed_held.specs.declared.moves.Move.{Move}
 use Rattle.ed_group.proofs.Committed.{stock_folded}
 use Rattle.ed_risen.proofs.Settled.{one_vector, settles}
 use Rattle.ed_risen.proofs.Growth.{set_here, set_other}

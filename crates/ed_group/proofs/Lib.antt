@@ -5,9 +5,7 @@ pub mod Snapshots
 pub mod Climb
 pub mod Turned
 pub mod Looped
-pub mod Relisted
 pub mod Committed
-pub mod OwnPieces
 pub mod Routes
 pub mod Edited
 pub mod NewBuffer

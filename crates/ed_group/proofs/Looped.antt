@@ -3,10 +3,10 @@ use Rattle.std.proofs.Common.{◌≡◌, ℕ, zero, suc, ◌+◌, ◌<◌, ◌�
 use Rattle.std.specs.Prelude.{Result, slice_get, slice_index_or}
 use Rattle.ed_project.specs.declared.ProjectionFault.{ProjectionFault}
 use Rattle.ed_stock.specs.Versions.{step_in}
-use Rattle.ed_group.specs.declared.held.Held.{Held}
-use Rattle.ed_group.specs.declared.moves.Move.{Move}
+use Rattle.ed_held.specs.declared.held.Held.{Held}
+use Rattle.ed_held.specs.declared.moves.Move.{Move}
 use Rattle.ed_group.specs.Climbing.{CanRise, HasTurned, goes}
-use Rattle.ed_group.specs.Moves.{move_seen}
+use Rattle.ed_held.specs.Moves.{move_seen}
 use Rattle.ed_group.specs.Route.{Climbs, HasClimbed, IsRoute, Route}
 use Rattle.ed_risen.proofs.Lists.{got}
 use Rattle.ed_group.proofs.Climb.{reached, there_held}

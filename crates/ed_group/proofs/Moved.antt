@@ -1,21 +1,19 @@
 -- Moves, as the definitions see them.
 use Rattle.std.proofs.Common.{◌≡◌, ℕ, Bool, true, false, List, [], ◌∷◌, map, Option, Some, None, refl, sym, ap, ◌∙◌}
 use Rattle.std.specs.Prelude.{nat_eq, is_some, option_map, if◌then◌else◌}
-use Rattle.std.specs.List.{list_any}
+use Rattle.std.specs.List.{list_any, AllByRecursion as Each}
 use Rattle.ed_base.specs.Numbers.{places}
 use Rattle.ed_base.specs.ChangeList.{ChangeList, step, new_len, IsNormal}
 use Rattle.ed_base.proofs.NormalSteps.{normal_new_len}
 use Rattle.ed_stock.specs.Versions.{step_in, with_version}
-use Rattle.ed_stock.specs.Stock.{Stock}
-use Rattle.ed_group.specs.declared.moves.Move.{Move}
-use Rattle.ed_group.specs.Moves.{move_of, move_seen, changes_of, with_move}
+use Rattle.ed_stock.specs.Stock.{Stock, now}
+use Rattle.ed_held.specs.declared.moves.Move.{Move}
+use Rattle.ed_held.specs.Moves.{move_of, move_seen, changes_of, with_move}
 use Rattle.ed_risen.specs.Rising.{plain}
 use Rattle.ed_members.specs.declared.SourceStep.{SourceStep as SourceSteps}
 use Rattle.ed_members.specs.Steps.{step_seen, steps_seen}
 use Rattle.ed_group.specs.Route.{IsNewest}
 use Rattle.ed_group.specs.Counted.{told}
-use Rattle.std.specs.List.{AllByRecursion as Each}
-use Rattle.ed_stock.specs.Stock.{now}
 
 -- the step of a buffer is that of its move
 pub step_of_move : (ms : List Move) (b : ℕ) → step_in (map move_seen ms) b ≡ option_map (λ m. plain (step (changes_of m.planned))) (move_of ms b)

@@ -19,7 +19,7 @@ use Rattle.ed_risen.specs.Growing.{Grows, AreFounded}
 use Rattle.ed_group.specs.Kept.{IsKept}
 use Rattle.ed_risen.specs.Laws.{HasOneVersionEach, OneVector}
 use Rattle.ed_risen.specs.Rising.{EndsIn, Inside, IsNow, IsSettled}
-use Rattle.ed_group.specs.Seen.{Known, stock_of}
+use Rattle.ed_held.specs.Seen.{Known, stock_of}
 use Rattle.ed_risen.proofs.Counting.{new_buffer}
 use Rattle.ed_risen.proofs.Settled.{current_one, record_there}
 use Rattle.ed_risen.proofs.FoundedLemmas.{each_weaker, each_version, founded_record, same_vector}

@@ -1,9 +1,8 @@
 -- The limits of a stock with one buffer more.
 use Rattle.std.proofs.Common.{◌≡◌, ◌≢◌, ℕ, ◌+◌, ◌<◌, ◌^◌, Bool, true, false, List, [], ◌∷◌, ◌++◌, length, map, Option, Some, None, refl, sym, ◌∙◌, ap, inl, inr, arith}
-use Rattle.std.proofs.lemmas.Bool.{ltb-false}
+use Rattle.std.proofs.lemmas.Bool.{ltb-false, cases_eq, eqb-true, eq-eqb, ne_eqb}
 use Rattle.std.specs.Prelude.{find, nat_eq, nat_lt, option_map, if◌then◌else◌}
 use Rattle.std.specs.List.{AllByRecursion as Each}
-use Rattle.std.proofs.lemmas.Bool.{cases_eq, eqb-true, eq-eqb, ne_eqb}
 use Rattle.std.proofs.lemmas.List.{length-map}
 use Rattle.ed_base.specs.declared.refusal.Refusal.{Refusal}
 use Rattle.ed_base.specs.declared.refusal.Which.{Which}
@@ -15,7 +14,7 @@ use Rattle.ed_stock.specs.Stock.{Stock, count, graph_order, record_now, sources_
 use Rattle.ed_group.specs.declared.counts.Counts.{Counts}
 use Rattle.ed_group.specs.Limited.{new_limit, passed}
 use Rattle.ed_risen.specs.Rising.{IsSettled}
-use Rattle.ed_group.specs.Seen.{Known, stock_of}
+use Rattle.ed_held.specs.Seen.{Known, stock_of}
 use Rattle.ed_risen.proofs.Counting.{new_buffer}
 use Rattle.ed_risen.proofs.Growth.{grown_record_now, grown_record_other}
 use Rattle.ed_risen.proofs.Order.{order_all, order_comes, in_order, of_order}

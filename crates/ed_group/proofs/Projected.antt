@@ -27,16 +27,16 @@ use Rattle.ed_version.specs.declared.Snapshot.{Snapshot}
 use Rattle.ed_group.specs.Answers.{LiesIn, Refuses, len_now, projection_fault, with_projection}
 use Rattle.ed_group.specs.declared.counts.Counts.{Counts}
 use Rattle.ed_group.specs.declared.fault.PlanFault.{PlanFault}
-use Rattle.ed_group.specs.declared.held.Held.{Held}
+use Rattle.ed_held.specs.declared.held.Held.{Held}
 use Rattle.ed_risen.specs.Founded.{Founded}
 use Rattle.ed_risen.specs.Growing.{Grows}
 use Rattle.ed_group.specs.Kept.{IsKept}
 use Rattle.ed_group.specs.Limited.{new_limit}
-use Rattle.ed_group.specs.Moves.{snapshot_now}
+use Rattle.ed_held.specs.Moves.{snapshot_now}
 use Rattle.ed_group.specs.Placed.{too_deep}
 use Rattle.ed_risen.specs.Rising.{EndsIn, IsNow, IsSettled}
 use Rattle.ed_group.specs.Route.{newest}
-use Rattle.ed_group.specs.Seen.{Known, known, stock, stock_of}
+use Rattle.ed_held.specs.Seen.{Known, known, stock, stock_of}
 use Rattle.ed_group.proofs.Based.{count_len, graph_len, not_passed, new_first, new_record}
 use Rattle.ed_risen.proofs.Counting.{inserted_new_projection, new_buffer, placements_new, versions_new}
 use Rattle.ed_risen.proofs.Settled.{all_of}

@@ -17,21 +17,21 @@ use Rattle.ed_project.specs.Records.{shown_now}
 use Rattle.ed_stock.specs.Limits.{inserted, over, placements, some_over, stock_limits, versions}
 use Rattle.ed_stock.specs.Stock.{Stock, buffer, count, graph_order, now, record_at, record_now, text_at, text_now}
 use Rattle.ed_stock.specs.Versions.{Rising, at_now, next_record, none_given, risen_at, step_in}
-use Rattle.ed_group.specs.declared.held.Held.{Held}
+use Rattle.ed_held.specs.declared.held.Held.{Held}
 use Rattle.ed_risen.specs.Founded.{Extends, Founded}
 use Rattle.ed_risen.specs.Growing.{AreFounded, Grows}
-use Rattle.ed_group.specs.Moves.{rising_of}
+use Rattle.ed_held.specs.Moves.{rising_of}
 use Rattle.ed_risen.specs.Rising.{EndsIn}
 use Rattle.ed_group.specs.Route.{IsRoute, IsTooLong, Route}
-use Rattle.ed_group.specs.Seen.{known, stock, stock_of, Known}
-use Rattle.ed_risen.proofs.Lists.{among_itself, among_front, clash, among_behind, among_split, each_among, each_behind, fold_append, each_of}
+use Rattle.ed_held.specs.Seen.{known, stock, stock_of, Known}
+use Rattle.ed_risen.proofs.Lists.{among_itself, among_front, clash, among_behind, among_split, each_among, each_behind, fold_append, each_of, get_map}
 use Rattle.ed_group.proofs.Climb.{buffer_is, closed, inside_by, low, out_of, reached, record_is, still_text, there_sources, true_hs}
 use Rattle.ed_risen.proofs.FoundedLemmas.{each_version, each_weaker, founded_in, founded_more}
 use Rattle.ed_risen.proofs.Growth.{grown_extends, grown_founded, grown_last, grown_length, grown_now}
 use Rattle.ed_risen.proofs.Lengths.{Fits, length_text_over}
 use Rattle.ed_risen.proofs.RisingLemmas.{at_now_each, levels, same_record, some_records}
 use Rattle.ed_risen.proofs.Texts.{named_text, projection_text, same_text}
-use Rattle.ed_group.proofs.Snapshots.{get_map, members_inside}
+use Rattle.ed_group.proofs.Snapshots.{members_inside}
 use Rattle.ed_risen.proofs.Turns.{Turns, text_stays, turns}
 use Rattle.ed_risen.proofs.OneLimit.{first_long}
 

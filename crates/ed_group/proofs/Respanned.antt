@@ -19,11 +19,11 @@ use Rattle.ed_version.specs.declared.Snapshot.{Snapshot}
 use Rattle.ed_group.specs.Answers.{LiesIn, Refuses, len_now, members_now, spans_fault}
 use Rattle.ed_group.specs.declared.counts.Counts.{Counts}
 use Rattle.ed_group.specs.declared.fault.PlanFault.{PlanFault}
-use Rattle.ed_group.specs.declared.held.Held.{Held}
+use Rattle.ed_held.specs.declared.held.Held.{Held}
 use Rattle.ed_group.specs.Kept.{IsKept}
 use Rattle.ed_group.specs.Placed.{too_deep}
 use Rattle.ed_risen.specs.Rising.{EndsIn, Inside}
-use Rattle.ed_group.specs.Seen.{known, stock}
+use Rattle.ed_held.specs.Seen.{known, stock}
 use Rattle.ed_group.specs.Spanning.{standing_fault}
 use Rattle.ed_group.proofs.Based.{count_len, graph_len}
 use Rattle.ed_risen.proofs.Settled.{all_of}

@@ -19,25 +19,21 @@ use Rattle.ed_project.specs.Texts.{HasSource, found_text, text_in, versions_of}
 use Rattle.ed_stock.specs.Stock.{Stock, Buffer, buffer, now, record_at, record_now, text_at, text_now, count}
 use Rattle.ed_stock.specs.Versions.{at_now}
 use Rattle.ed_version.specs.declared.Snapshot.{Snapshot}
-use Rattle.ed_group.specs.declared.held.Held.{Held}
-use Rattle.ed_group.specs.declared.moves.Move.{Move}
-use Rattle.ed_group.specs.Moves.{move_of, newest_of, snapshot_now}
+use Rattle.ed_held.specs.declared.held.Held.{Held}
+use Rattle.ed_held.specs.declared.moves.Move.{Move}
+use Rattle.ed_held.specs.Moves.{move_of, newest_of, snapshot_now}
 use Rattle.ed_risen.specs.Rising.{EndsIn, IsSettled, HasStepped}
 use Rattle.ed_group.specs.Route.{AreTrue, newest}
-use Rattle.ed_group.specs.Seen.{known, seen, stock, text_of}
+use Rattle.ed_held.specs.Seen.{known, seen, stock, text_of}
 use Rattle.ed_risen.proofs.Settled.{all_of}
 use Rattle.ed_risen.proofs.FoundedLemmas.{each_weaker, each_version}
 use Rattle.ed_risen.proofs.Lengths.{no_trail}
 use Rattle.ed_risen.proofs.Growth.{missing}
 use Rattle.ed_risen.proofs.RisingLemmas.{get_last}
 use Rattle.ed_risen.proofs.Texts.{named_text}
+use Rattle.ed_risen.proofs.Lists.{get_map}
 
 -- ---- buffers that are held
-
-pub get_map : {X Y : Type 0} (f : X → Y) (xs : List X) (i : ℕ) (x : X) → slice_get xs i ≡ Some x → slice_get (map f xs) i ≡ Some (f x)
-get_map f [] i x h = absurd (cc)
-get_map f (y ∷ ys) zero x h = let e : y ≡ x = cc in ap (λ z. Some (f z)) e
-get_map f (y ∷ ys) (suc i) x h = get_map f ys i x h
 
 pub held_buffer : (hs : List Held) (b : ℕ) (h : Held) → slice_get hs b ≡ Some h → buffer (stock hs) b ≡ seen h
 held_buffer hs b h is = ap (λ o. unwrap_or o missing) (get_map (λ k. k.buffer) (map known hs) b (known h) (get_map known hs b h is) ∙ ap Some (by h))

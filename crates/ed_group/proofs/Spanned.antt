@@ -27,16 +27,16 @@ use Rattle.ed_stock.specs.Making.{sources_in, spans_replaced, spans_set}
 use Rattle.ed_stock.specs.Stock.{Stock, Buffer, buffer, count, graph_order, now, record_at, record_now, sources_now, text_at, text_now, with_buffer}
 use Rattle.ed_stock.specs.Versions.{Rising, at_now, is_moved, none_given, risen, risen_at, step_in, with_record, with_version}
 use Rattle.ed_group.specs.Answers.{LiesIn, members_now}
-use Rattle.ed_group.specs.declared.held.Held.{Held}
-use Rattle.ed_group.specs.declared.moves.Move.{Move}
-use Rattle.ed_group.specs.declared.moves.Planned.{Planned}
+use Rattle.ed_held.specs.declared.held.Held.{Held}
+use Rattle.ed_held.specs.declared.moves.Move.{Move}
+use Rattle.ed_held.specs.declared.moves.Planned.{Planned}
 use Rattle.ed_risen.specs.Founded.{Founded, Extends}
 use Rattle.ed_risen.specs.Counting.{turned_in}
 use Rattle.ed_risen.specs.Growing.{AreFounded, Grows}
-use Rattle.ed_group.specs.Moves.{CanMake, move_of, move_seen, rising_of, with_move}
+use Rattle.ed_held.specs.Moves.{CanMake, move_of, move_seen, rising_of, with_move}
 use Rattle.ed_risen.specs.Rising.{EndsIn, HasStepped, Inside, IsNow, IsRisen, IsSettled, Rises, plain}
 use Rattle.ed_group.specs.Route.{AreTrue, Climbs, IsNewest}
-use Rattle.ed_group.specs.Seen.{known, seen, stock}
+use Rattle.ed_held.specs.Seen.{known, seen, stock}
 use Rattle.ed_risen.specs.Start.{IsStart}
 use Rattle.ed_group.specs.Begins.{turned_rising}
 use Rattle.ed_risen.proofs.Turning.{turned_limits}
@@ -44,7 +44,7 @@ use Rattle.ed_risen.proofs.Starts.{count_left, only_too_long, risen_is}
 use Rattle.ed_group.specs.Spanning.{below, spans_first, spans_route}
 use Rattle.ed_group.proofs.Advanced.{map_set, same_known}
 use Rattle.ed_risen.proofs.MemberCounts.{most_all}
-use Rattle.ed_risen.proofs.Lists.{among_itself, among_more, among_front, clash, each_both, among_behind, among_split, each_among, fold_append, passes, passing, each_of}
+use Rattle.ed_risen.proofs.Lists.{among_itself, among_more, among_front, clash, each_both, among_behind, among_split, each_among, fold_append, passes, passing, each_of, get_map}
 use Rattle.ed_group.proofs.Climb.{rising_to, snapshot_by, stepped_by}
 use Rattle.ed_risen.proofs.FoundedLemmas.{each_version, each_weaker, founded_in, founded_of}
 use Rattle.ed_risen.proofs.Growth.{missing, grown_extends, grown_founded, grown_last, grown_length, grown_now, grown_now_other, grown_record_now, grown_record_other, grown_text_now, same_growth, set_grows, set_here, set_other, version_grows}
@@ -56,7 +56,7 @@ use Rattle.ed_risen.proofs.RisingLemmas.{get_last, now_is_there}
 use Rattle.ed_group.proofs.Routes.{greatest_above}
 use Rattle.ed_risen.proofs.Texts.{named_text, projection_text, same_text}
 use Rattle.ed_risen.proofs.Turns.{NamesStay, names_stay, text_stays}
-use Rattle.ed_group.proofs.Snapshots.{get_map, held_buffer, held_record, snap_there, snaps, snaps_text}
+use Rattle.ed_group.proofs.Snapshots.{held_buffer, held_record, snap_there, snaps, snaps_text}
 use Rattle.ed_group.proofs.Based.{few}
 
 -- ---- lists

@@ -10,14 +10,14 @@ use Rattle.ed_project.specs.Records.{Next}
 use Rattle.ed_project.specs.Planning.{too_long}
 use Rattle.ed_project.specs.declared.ProjectionFault.{ProjectionFault}
 use Rattle.ed_stock.specs.Versions.{is_moved, step_in}
-use Rattle.ed_group.specs.declared.held.Held.{Held}
-use Rattle.ed_group.specs.declared.moves.Move.{Move}
+use Rattle.ed_held.specs.declared.held.Held.{Held}
+use Rattle.ed_held.specs.declared.moves.Move.{Move}
 use Rattle.ed_group.specs.Climbing.{CanRise, HasRisen, HasTurned, Rested, TurnedBy, WentAlong, goes, move_to}
-use Rattle.ed_group.specs.Advancing.{members_next}
+use Rattle.ed_held.specs.Advancing.{members_next}
 use Rattle.ed_group.specs.Route.{Climbs, IsRoute, IsTooLong, Route}
-use Rattle.ed_group.specs.Seen.{stock, stock_of, Known}
+use Rattle.ed_held.specs.Seen.{stock, stock_of, Known, seen}
 use Rattle.ed_group.proofs.Climb.{can_rise, climbs_on, moves_here, passes}
-use Rattle.ed_group.specs.Moves.{move_seen, rising_of}
+use Rattle.ed_held.specs.Moves.{move_seen, rising_of}
 use Rattle.ed_group.proofs.Moved.{seen_steps}
 use Rattle.ed_risen.proofs.Turns.{rests, turns}
 

@@ -11,7 +11,7 @@ use Rattle.ed_group.specs.Counted.{AreCounts}
 use Rattle.ed_group.specs.declared.counts.Counts.{Counts}
 use Rattle.ed_group.specs.Limited.{limit_of, passed}
 use Rattle.ed_risen.specs.Rising.{Inside, IsSettled}
-use Rattle.ed_group.specs.Seen.{Known, stock_of}
+use Rattle.ed_held.specs.Seen.{Known, stock_of}
 use Rattle.ed_risen.proofs.MemberCounts.{as_many}
 use Rattle.ed_risen.proofs.OneLimit.{all_within, each_none, none_of, none_past}
 use Rattle.ed_risen.proofs.Order.{in_order, of_order}

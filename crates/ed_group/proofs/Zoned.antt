@@ -14,22 +14,23 @@ use Rattle.ed_layers.specs.Records.{Record, base, is_carrier, members_of, source
 use Rattle.ed_readonly.specs.LiveRegions.{LiveRegions, is_live, is_numbered, without_region}
 use Rattle.ed_stock.specs.Limits.{inserted, over, placements, some_over, stock_limits, versions}
 use Rattle.ed_stock.specs.Stock.{Stock, Buffer, buffer, count, record_now, text_at, text_now, with_buffer}
-use Rattle.ed_group.specs.Asking.{IsBase, zoned, zoned_buffer}
+use Rattle.ed_held.specs.Asking.{IsBase, zoned, zoned_buffer}
 use Rattle.ed_group.specs.declared.counts.Counts.{Counts}
-use Rattle.ed_group.specs.declared.held.Held.{Held}
+use Rattle.ed_held.specs.declared.held.Held.{Held}
 use Rattle.ed_risen.specs.Founded.{Founded}
 use Rattle.ed_group.specs.Kept.{IsKept}
 use Rattle.ed_risen.specs.Laws.{HasOneVersionEach}
 use Rattle.ed_risen.specs.Rising.{Inside, IsSettled}
-use Rattle.ed_group.specs.Seen.{Known, known, last_of, stock, stock_of, text_of}
+use Rattle.ed_held.specs.Seen.{Known, known, last_of, stock, stock_of, text_of}
 use Rattle.ed_buffer.specs.Planning.{Base}
 use Rattle.ed_group.proofs.Advanced.{map_set}
-use Rattle.ed_group.proofs.Asked.{base_held, held_is, held_some, held_texts, texts_count}
+use Rattle.ed_held.proofs.KindLemmas.{base_held, texts_count}
+use Rattle.ed_group.proofs.Asked.{held_is, held_some, held_texts}
 use Rattle.ed_group.proofs.Committed.{set_map}
 use Rattle.ed_risen.proofs.Counting.{inserted_changed, inserted_of, placements_changed, placements_of, versions_changed, versions_of}
 use Rattle.ed_risen.proofs.Growth.{missing, set_here, set_other}
 use Rattle.ed_risen.proofs.RisingLemmas.{Same, inside_same}
-use Rattle.ed_group.proofs.Snapshots.{get_map}
+use Rattle.ed_risen.proofs.Lists.{get_map}
 
 -- ---- what is so of a stock by its records alone
 
@@ -222,20 +223,3 @@ module _ (bs hs : List Held) (i b : ℕ) (h h' : Held) (same_list : bs ≡ hs) (
       ∙ ap (text_at (stock hs) b) (ap (λ n. n - 1) (all ∙ ap (λ x. length x.records) set_is_held))
 
 -- ---- a region that wasn't there
-
-none_left : {X : Type 0} (p : X → Bool) (xs : List X) → list_any p xs ≡ false → filter (λ y. not (p y)) xs ≡ xs
-none_left p [] h = refl
-none_left p (y ∷ ys) h = by (p y) refl h (none_left p ys)
-  where
-    by : (q : Bool) → p y ≡ q → (q || list_any p ys) ≡ false → (list_any p ys ≡ false → filter (λ z. not (p z)) ys ≡ ys) → filter (λ z. not (p z)) (y ∷ ys) ≡ y ∷ ys
-    by true is h more = absurd (cc)
-    by false is h more = rw is (ap (λ zs. y ∷ zs) (more h))
-
-pub base_unzoned : (x y : Base) (n : ℕ) (live : Bool) → live ≡ is_live x.regions n → y.regions ≡ without_region x.regions n → y.chain ≡ x.chain → live ≡ false → known (Held.Base y) ≡ known (Held.Base x)
-base_unzoned x y n live is regions chain dead =
-    let none : filter (λ r. not (is_numbered n r)) x.regions.regions ≡ x.regions.regions = none_left (is_numbered n) x.regions.regions (sym is ∙ dead) in
-    let same : y.regions ≡ x.regions = regions ∙ ap (with_zones x.regions.given) none in
-    rw (chain, same) refl
-  where
-    with_zones : ℕ → List Region → LiveRegions
-    with_zones given rs = record { regions = rs; given = given }

@@ -11,12 +11,12 @@ use Rattle.ed_stock.specs.Limits.{some_over, stock_limits}
 use Rattle.ed_stock.specs.Stock.{Stock, sources_now}
 use Rattle.ed_stock.specs.Versions.{Rising, none_given, risen}
 use Rattle.ed_group.specs.declared.beginning.FirstMoves.{FirstMoves}
-use Rattle.ed_group.specs.declared.held.Held.{Held}
-use Rattle.ed_group.specs.declared.moves.Move.{Move}
+use Rattle.ed_held.specs.declared.held.Held.{Held}
+use Rattle.ed_held.specs.declared.moves.Move.{Move}
 use Rattle.ed_group.specs.Group.{MayTurn}
-use Rattle.ed_group.specs.Moves.{move_seen, rising_of}
+use Rattle.ed_held.specs.Moves.{move_seen, rising_of}
 use Rattle.ed_group.specs.Route.{Climbs, Route}
-use Rattle.ed_group.specs.Seen.{Known, known, stock, stock_of}
+use Rattle.ed_held.specs.Seen.{Known, known, stock, stock_of}
 
 -- the way over this graph: the buffers of the one list may have other sources than before, those of the other are done before it begins
 abbrev pub way : List Known → List (List ℕ) → List ℕ → List ℕ → Rising → Route

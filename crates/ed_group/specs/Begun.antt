@@ -9,9 +9,9 @@ use Rattle.ed_stock.specs.Limits.{stock_limits}
 use Rattle.ed_stock.specs.Making.{sources_in, spans_replaced, spans_set}
 use Rattle.ed_group.specs.Answers.{members_now, spans_fault}
 use Rattle.ed_group.specs.Climbing.{move_to}
-use Rattle.ed_group.specs.declared.held.Held.{Held}
+use Rattle.ed_held.specs.declared.held.Held.{Held}
 use Rattle.ed_group.specs.Route.{Climbs}
-use Rattle.ed_group.specs.Seen.{stock}
+use Rattle.ed_held.specs.Seen.{stock}
 use Rattle.ed_group.specs.Spanning.{below, spans_first, spans_route}
 
 -- the members as they will be

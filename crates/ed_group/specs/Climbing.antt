@@ -9,16 +9,12 @@ use Rattle.ed_layers.specs.Records.{members_len}
 use Rattle.ed_project.specs.declared.ProjectionFault.{ProjectionFault}
 use Rattle.ed_stock.specs.Versions.{step_in}
 use Rattle.ed_version.specs.declared.Snapshot.{Snapshot}
-use Rattle.ed_group.specs.declared.held.Held.{Held}
-use Rattle.ed_group.specs.declared.moves.Move.{Move}
-use Rattle.ed_group.specs.declared.moves.Planned.{Planned}
-use Rattle.ed_group.specs.Advancing.{CanAdvance, IsNextOf, members_next}
-use Rattle.ed_group.specs.Moves.{move_of, move_seen, snapshot_after}
-
--- the versions that the buffer names
-abbrev pub sources_held : Held → List (ℕ × ℕ)
-sources_held (Held.Base x) = []
-sources_held (Held.Projection p turns) = (shown_now p).sources
+use Rattle.ed_held.specs.declared.held.Held.{Held}
+use Rattle.ed_held.specs.declared.moves.Move.{Move}
+use Rattle.ed_held.specs.declared.moves.Planned.{Planned}
+use Rattle.ed_held.specs.Advancing.{CanAdvance, IsNextOf, members_next, sources_held}
+use Rattle.ed_held.specs.Moves.{move_of, move_seen, snapshot_after}
+use Rattle.ed_risen.proofs.RisingLemmas.{steps}
 
 -- whether one of its sources has moved
 abbrev pub is_over : List Move → Held → Bool

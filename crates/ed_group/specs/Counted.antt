@@ -6,9 +6,9 @@ use Rattle.ed_stock.specs.Limits.{inserted, placements, versions}
 use Rattle.ed_stock.specs.Stock.{Stock}
 use Rattle.ed_risen.specs.Counting.{tracked_in}
 use Rattle.ed_group.specs.declared.counts.Counts.{Counts}
-use Rattle.ed_group.specs.declared.moves.Move.{Move}
-use Rattle.ed_group.specs.declared.moves.Planned.{Planned}
-use Rattle.ed_group.specs.Moves.{changes_of, record_of, snapshot_of}
+use Rattle.ed_held.specs.declared.moves.Move.{Move}
+use Rattle.ed_held.specs.declared.moves.Planned.{Planned}
+use Rattle.ed_held.specs.Moves.{changes_of, record_of, snapshot_of}
 
 abbrev pub counts_with : Counts → Planned → Counts
 counts_with c p = record {

@@ -8,11 +8,11 @@ use Rattle.ed_buffer.specs.Planning as buffers
 use Rattle.ed_buffer.specs.Planning.{Base, NextVersion, fault_of}
 use Rattle.ed_buffer.specs.declared.BaseFault.{BaseFault}
 use Rattle.ed_project.specs.declared.ProjectionFault.{ProjectionFault}
-use Rattle.ed_group.specs.Landing.{IsNextBy}
+use Rattle.ed_held.specs.Landing.{IsNextBy}
 use Rattle.ed_group.specs.declared.fault.PlanFault.{PlanFault}
-use Rattle.ed_group.specs.declared.held.Held.{Held}
-use Rattle.ed_group.specs.declared.moves.Move.{Move}
-use Rattle.ed_group.specs.declared.moves.Planned.{Planned}
+use Rattle.ed_held.specs.declared.held.Held.{Held}
+use Rattle.ed_held.specs.declared.moves.Move.{Move}
+use Rattle.ed_held.specs.declared.moves.Planned.{Planned}
 
 -- a fault of a base as it is told
 abbrev pub told_fault : ℕ → BaseFault → PlanFault

@@ -6,13 +6,14 @@ use Rattle.ed_base.specs.Denial.{regions_after}
 use Rattle.ed_base.specs.ChangeList.{step}
 use Rattle.ed_stock.specs.Stock.{Stock, Buffer, buffer, record_at, with_buffer}
 use Rattle.ed_group.specs.declared.counts.Counts.{Counts}
-use Rattle.ed_group.specs.declared.held.Held.{Held}
-use Rattle.ed_group.specs.declared.moves.Move.{Move}
+use Rattle.ed_held.specs.declared.held.Held.{Held}
+use Rattle.ed_held.specs.declared.moves.Move.{Move}
 use Rattle.ed_risen.specs.Counting.{turn, turned_in}
 use Rattle.ed_risen.specs.Founded.{Extends}
 use Rattle.ed_group.specs.Kept.{IsKept}
-use Rattle.ed_group.specs.Moves.{AreApart, IsPlannedAt, changes_of, record_of, snapshot_of, with_move}
-use Rattle.ed_group.specs.Seen.{Known, known, stock}
+use Rattle.ed_held.specs.Moves.{AreApart, IsPlannedAt, changes_of, record_of, snapshot_of, with_move}
+use Rattle.ed_held.specs.Seen.{Known, known, stock}
+use Rattle.ed_held.specs.Making.{IsProjection, known_grown, known_turned}
 
 -- The versions that will be made in their order, the buffer whose members were set if one's were, the graph and the numbers that there will be, and the versions as they will be told.
 pub record Plan : Type 0 where
@@ -28,16 +29,6 @@ outcome s g = turned_in (fold with_move s g.moves) g.turned
 
 -- ---- what is known of the buffers then
 
-abbrev pub known_grown : Known → Move → Known
-known_grown k m = record {
-  number = k.number;
-  buffer = record k.buffer { records = k.buffer.records ++ record_of m.planned ∷ []; changes = k.buffer.changes ++ changes_of m.planned ∷ []; regions = regions_after (step (changes_of m.planned)) k.buffer.regions };
-  texts = k.texts ++ (snapshot_of m.planned).text ∷ [];
-}
-
-abbrev pub known_turned : Known → Known
-known_turned k = record k { buffer = turn k.buffer }
-
 abbrev pub set_known : (Known → Known) → ℕ → List Known → List Known
 set_known f b ks = option_map_or (λ k. slice_set ks b (f k)) (slice_get ks b) ks
 
@@ -51,10 +42,6 @@ abbrev pub known_after : List Known → Plan → List Known
 known_after ks g = known_made ks g.moves g.turned
 
 -- ---- what makes a group one that can be made
-
-abbrev pub IsProjection : Held → Type 0
-IsProjection (Held.Base x) = ⊥
-IsProjection (Held.Projection p turns) = turns + 1 < 2 ^ 32
 
 -- the buffer is a projection whose members can be set once more
 abbrev pub MayTurn : List Held → ℕ → Type 0

@@ -5,7 +5,7 @@ use Rattle.ed_stock.specs.Stock.{sources_now, text_at}
 use Rattle.ed_stock.specs.Limits.{inserted, versions, placements, stock_limits}
 use Rattle.ed_risen.specs.Laws.{OneVector}
 use Rattle.ed_risen.specs.Rising.{IsSettled}
-use Rattle.ed_group.specs.Seen.{Known, stock_of}
+use Rattle.ed_held.specs.Seen.{Known, stock_of}
 use Rattle.ed_group.specs.declared.counts.Counts.{Counts}
 
 -- The buffers have their numbers; each text that is kept is the one that the definitions give; the graph has the sources of now; the stock is settled, and within its limits, whose numbers are kept.

@@ -1,12 +1,9 @@
 pub use Rattle.ed_risen.specs.Laws
-pub mod Seen
-pub mod Moves
-pub mod Advancing
+pub use Rattle.ed_held.specs.Seen
 pub mod Climbing
-pub mod Landing
 pub mod Route
 pub mod Answers
-pub mod Asking
+pub use Rattle.ed_held.specs.Asking
 pub mod Group
 pub mod Kept
 pub mod Limited

@@ -9,12 +9,12 @@ use Rattle.ed_project.specs.declared.ProjectionFault.{ProjectionFault}
 use Rattle.ed_stock.specs.Stock.{Stock, now, record_now, text_at, text_now, count}
 use Rattle.ed_stock.specs.Versions.{Rising, is_moved, risen_at, none_given, step_in}
 use Rattle.ed_version.specs.declared.Snapshot.{Snapshot}
-use Rattle.ed_group.specs.declared.held.Held.{Held}
-use Rattle.ed_group.specs.declared.moves.Move.{Move}
-use Rattle.ed_group.specs.Advancing.{members_next}
-use Rattle.ed_group.specs.Moves.{AreApart, IsPlannedAt, move_of, move_seen, rising_of, snapshot_of}
+use Rattle.ed_held.specs.declared.held.Held.{Held}
+use Rattle.ed_held.specs.declared.moves.Move.{Move}
+use Rattle.ed_held.specs.Advancing.{members_next}
+use Rattle.ed_held.specs.Moves.{AreApart, IsPlannedAt, move_of, move_seen, rising_of, snapshot_of}
 use Rattle.ed_risen.specs.Rising.{IsSettled, Rises}
-use Rattle.ed_group.specs.Seen.{Known, known, stock, stock_of}
+use Rattle.ed_held.specs.Seen.{Known, known, stock, stock_of}
 
 -- The buffers before, their heights, those that may have other sources than before, those that are done before the way begins, and what has happened by then.
 pub record Route : Type 0 where

@@ -15,10 +15,12 @@ use Rattle.ed_stock.specs.Making.{projection_of}
 use Rattle.ed_stock.specs.Stock.{Stock}
 use Rattle.ed_stock.specs.Versions.{Rising, with_record}
 use Rattle.ed_version.specs.declared.Snapshot.{Snapshot}
-use Rattle.ed_group.specs.declared.held.Held.{Held}
+use Rattle.ed_held.specs.declared.held.Held.{Held}
 use Rattle.ed_group.specs.Placed.{too_deep}
 use Rattle.ed_group.specs.Route.{Route}
-use Rattle.ed_group.specs.Seen.{known}
+use Rattle.ed_held.specs.Seen.{known}
+use Rattle.ed_held.specs.Respanning.{Respans}
+use Rattle.ed_risen.proofs.RisingLemmas.{stays}
 
 -- the buffers that stand lower than this one
 abbrev pub below : List (List ℕ) → ℕ → List ℕ
@@ -41,39 +43,6 @@ abbrev pub refusal_of : LinkFault → Option Refusal
 refusal_of (LinkFault.Cycle via) = Some (Refusal.Cycle via)
 refusal_of (LinkFault.Depth height) = Some (Refusal.Depth height)
 refusal_of LinkFault.OutOfMemory = None
-
--- ---- the version that shows other members
-
--- the members of a buffer that is held
-abbrev pub held_members : Held → List Member
-held_members (Held.Base x) = []
-held_members (Held.Projection p turns) = (shown_now p).members
-
--- the members are the current ones but for a part
-pub record IsPart (p : Projection) (first removed : ℕ) (members : List Member) : Type 0 where
-  pub part : first + removed ≤ length (shown_now p).members
-  pub others : members ≡ replaced (shown_now p).members first removed (added_in first removed (shown_now p).members members)
-
--- the version shows these members over these snapshots, and a projection that has room for it can make it
-pub record Shows (sources : List Snapshot) (p q : Projection) (first removed : ℕ) (list : List Member) (n : Next) : Type 0 where
-  pub members : n.members ≡ list
-  pub versions : n.sources ≡ versions_of sources
-  pub text : n.snapshot.text ≡ text_over (text_in sources) n.members
-  pub step : IsStep (stay_around first removed (length (added_in first removed (shown_now p).members list))) no_steps p n
-  pub planned : IsPlanned q n
-
-pub record Respans (sources : List Snapshot) (p q : Projection) (first removed : ℕ) (members : List Member) (result : Result Next OutOfMemory) : Type 0 where
-  pub same : IsUnchanged p q
-  pub next : IfOk result (Shows sources p q first removed members)
-
--- the same of a buffer that is held
-abbrev pub CanRespan : Held → ℕ → ℕ → List Member → Type 0
-CanRespan (Held.Base x) first removed members = ⊥
-CanRespan (Held.Projection p turns) first removed members = IsPart p first removed members
-
-abbrev pub HasRespanned : List Snapshot → Held → Held → ℕ → ℕ → List Member → Result Next OutOfMemory → Type 0
-HasRespanned sources (Held.Base x) new first removed members result = ⊥
-HasRespanned sources (Held.Projection p turns) new first removed members result = (q : Projection) × (new ≡ Held.Projection q turns) × Respans sources p q first removed members result
 
 -- the same of a buffer among those that are held: the others stay
 abbrev pub HasReshown : List Snapshot → List Held → List Held → ℕ → Held → ℕ → ℕ → List Member → Result Next OutOfMemory → Type 0

@@ -5,11 +5,10 @@ ghost use Rattle.ed_group.specs.Answers.{LiesIn, Refuses, base_fault, projection
 ghost use Rattle.ed_group.specs.Kept.{IsKept};
 ghost use Rattle.ed_risen.specs.Laws.{RecordsStay};
 ghost use Rattle.ed_group.specs.Limited.{new_limit};
-ghost use Rattle.ed_group.specs.Seen.{known, stock};
+ghost use Rattle.ed_held.specs.Seen.{known, stock};
 
 use crate::counts::Counts;
 use crate::fault::PlanFault;
-use crate::held::Held;
 use crate::limits::new_limit;
 use crate::listing::{lengths, newest_all, sources_in, tracked};
 use crate::placing::{joined, placed};
@@ -17,6 +16,7 @@ use crate::stock::Stock;
 use ed_base::{BufferNo, Member, OutOfMemory, Refusal, Unit};
 use ed_buffer::Base;
 use ed_graph::Graph;
+use ed_held::Held;
 use ed_project::Projection;
 use std::alloc::Global;
 

@@ -4,12 +4,12 @@ ghost use Rattle.ed_base.specs.ChangeList.{inserted_len};
 ghost use Rattle.ed_layers.specs.Records.{is_tracked};
 ghost use Rattle.ed_group.specs.Counted.{counts_after, counts_with, told};
 ghost use Rattle.ed_risen.specs.Counting.{tracked_in};
-ghost use Rattle.ed_group.specs.Moves.{record_of};
+ghost use Rattle.ed_held.specs.Moves.{record_of};
 
 use crate::counts::Counts;
 use crate::listing::is_tracked;
-use crate::moves::{Move, Planned};
 use ed_base::{Changes, OutOfMemory, VersionList};
+use ed_held::{Move, Planned};
 use ed_members::Members;
 use std::alloc::Global;
 

@@ -1,8 +1,8 @@
 //! The first versions of a group.
 
-use crate::moves::Move;
 use ed_base::{BufferNo, Refusal};
 use ed_graph::Graph;
+use ed_held::Move;
 use ed_members::SourceStep;
 
 /// The first versions of a group, planned: those of the buffers that a command changes by itself.

@@ -2,17 +2,16 @@
 ghost use Rattle.std.specs.Prelude.{◌≡◌, ℕ, List, ◌<◌, ◌++◌, ◌∷◌, [], true, length, map, Some, OnOk, slice_get};
 ghost use Rattle.ed_members.specs.Steps.{step_seen};
 ghost use Rattle.ed_stock.specs.Versions.{step_in};
-ghost use Rattle.ed_group.specs.declared.held.Held.{Held};
+ghost use Rattle.ed_held.specs.declared.held.Held.{Held};
 ghost use Rattle.ed_group.specs.Climbing.{CanRise, HasTurned, goes};
-ghost use Rattle.ed_group.specs.Moves.{move_seen};
+ghost use Rattle.ed_held.specs.Moves.{move_seen};
 ghost use Rattle.ed_group.specs.Route.{Climbs, HasClimbed, IsRoute, Route};
-ghost use Rattle.ed_group.specs.Seen.{known};
+ghost use Rattle.ed_held.specs.Seen.{known};
 
-use crate::held::Held;
-use crate::moves::{Move, Planned};
 use crate::rising::{is_over, rise};
 use crate::sources::{move_of, step_by};
 use ed_base::{BufferNo, OutOfMemory};
+use ed_held::{Held, Move, Planned};
 use ed_members::SourceStep;
 use ed_project::ProjectionFault;
 use std::alloc::Global;

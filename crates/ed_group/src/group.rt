@@ -2,9 +2,9 @@
 ghost use Rattle.std.specs.Prelude.{◌≡◌};
 
 use crate::counts::Counts;
-use crate::moves::Move;
 use ed_base::{BufferNo, VersionList};
 use ed_graph::Graph;
+use ed_held::Move;
 use std::marker::Model;
 
 /// What a commit will do to the stock: the versions that it makes, in the order of the graph.

@@ -10,7 +10,7 @@ ghost use Rattle.ed_group.specs.Editing.{carried_fault};
 ghost use Rattle.ed_group.specs.Group.{IsPlanned, outcome};
 ghost use Rattle.ed_group.specs.Kept.{IsKept};
 ghost use Rattle.ed_group.specs.Limited.{limit_of};
-ghost use Rattle.ed_group.specs.Seen.{known, stock};
+ghost use Rattle.ed_held.specs.Seen.{known, stock};
 
 use crate::adding_up::{counts_after, versions_of};
 use crate::beginning::FirstMoves;
@@ -18,11 +18,10 @@ use crate::climbing::climb;
 use crate::counts::Counts;
 use crate::fault::PlanFault;
 use crate::group::Group;
-use crate::held::Held;
 use crate::limits::limit;
-use crate::moves::Move;
 use ed_base::{BufferNo, Refusal, Which};
 use ed_graph::Graph;
+use ed_held::{Held, Move};
 use ed_project::ProjectionFault;
 use std::alloc::Global;
 

@@ -4,11 +4,11 @@ ghost use Rattle.ed_base.specs.declared.Member.{Member};
 ghost use Rattle.ed_base.specs.Numbers.{is_among};
 ghost use Rattle.ed_layers.specs.Records.{is_tracked};
 ghost use Rattle.ed_stock.specs.Making.{sources_in};
-ghost use Rattle.ed_group.specs.Moves.{snapshot_now};
+ghost use Rattle.ed_held.specs.Moves.{snapshot_now};
 
-use crate::held::Held;
 use crate::sources::newest;
 use ed_base::{BufferNo, Member, OutOfMemory};
+use ed_held::Held;
 use ed_text::Text;
 use ed_version::Snapshot;
 use std::alloc::Global;

@@ -2,46 +2,16 @@
 ghost use Rattle.std.specs.Prelude.{◌≡◌, ◌≢◌, ℕ, List, length, map, fold, slice_get, Option, MatchOption};
 ghost use Rattle.std.specs.Option.{option_map_or};
 ghost use Rattle.std.specs.List.{AllByRecursion as Each};
-ghost use Rattle.ed_group.specs.Group.{IsPlanned, IsProjection, MayTurn, known_grown, known_made, known_moved, known_turned, outcome, set_known};
+ghost use Rattle.ed_group.specs.Group.{IsPlanned, MayTurn, known_made, known_moved, outcome, set_known};
+ghost use Rattle.ed_held.specs.Making.{IsProjection, known_grown, known_turned};
 ghost use Rattle.ed_risen.specs.Laws.{CurrentVector, OneVector, RecordsStay};
-ghost use Rattle.ed_group.specs.Moves.{AreApart, CanMake, IsPlannedAt};
-ghost use Rattle.ed_group.specs.Seen.{known, stock};
+ghost use Rattle.ed_held.specs.Moves.{AreApart, CanMake, IsPlannedAt};
+ghost use Rattle.ed_held.specs.Seen.{known, stock};
 
 use crate::group::Group;
-use crate::held::Held;
-use crate::moves::{Move, Planned};
 use crate::stock::Stock;
 use ed_base::{BufferNo, VersionList};
-
-impl Held {
-    /// Makes a version that was planned of the buffer as it is. It takes no memory.
-    fn commit(&mut self, next: Move)
-        requires { CanMake self.old next.planned }
-        ensures known { known self.new ≡ known_grown (known self.old) next }
-        ensures turning { IsProjection self.old → IsProjection self.new }
-    {
-        match (self, next.planned) {
-            (Held::Base(base), Planned::Base(step)) => {
-                base.commit(step);
-            }
-            (Held::Projection { projection, .. }, Planned::Projection(step)) => {
-                projection.commit(step);
-            }
-            _ => unreachable!(),
-        }
-    }
-
-    /// One turn more of a projection.
-    fn turn(&mut self)
-        requires { IsProjection self.old }
-        ensures { known self.new ≡ known_turned (known self.old) }
-    {
-        match self {
-            Held::Base(_) => unreachable!(),
-            Held::Projection { turns, .. } => *turns += 1,
-        }
-    }
-}
+use ed_held::{Held, Move, Planned};
 
 /// Makes a version that was planned.
 fn make(buffers: &mut [Held], next: Move)

@@ -10,104 +10,15 @@ ghost use Rattle.ed_stock.specs.Stock.{buffer, count, now, record_now, reiterate
 ghost use Rattle.ed_track.specs.Linked.{AreLinked, len_after, len_before};
 ghost use Rattle.ed_group.specs.Answers.{members_now};
 ghost use Rattle.ed_risen.specs.Laws.{CurrentVector, OneVector};
-ghost use Rattle.ed_group.specs.Seen.{known, last_of, reiterated_of, stock, text_of};
+ghost use Rattle.ed_held.specs.Seen.{known, last_of, reiterated_of, stock, text_of};
 
-use crate::held::Held;
 use crate::stock::Stock;
 use ed_base::{BufferNo, Changes, NumberList, OutOfMemory, RegionNo, Span, VersionNo};
 use ed_callbacks::Hooks;
+use ed_held::Held;
 use ed_text::Text;
 use ed_version::Snapshot;
 use std::alloc::Global;
-
-/// The numbers up to this one, from 0 on.
-fn numbers_to(alloc: Global, last: u32) -> Result<NumberList, OutOfMemory>
-    requires { last < 2 ^ 32 - 1 }
-    ensures { IfOk result (λ numbers. numbers ≡ places (last + 1)) }
-{
-    let mut numbers = Vec::with_capacity(alloc, last as usize + 1)?;
-    for number in 0..last + 1 {
-        numbers.push(number)?;
-    }
-    NumberList::of(alloc, numbers)
-}
-
-impl Held {
-    /// Whether it is a base.
-    fn is_base(&self) -> bool
-        ensures { result ≡ not (is_carrier (last_of (known self.now).buffer)) }
-    {
-        match self {
-            Held::Base(_) => true,
-            Held::Projection { projection, .. } => {
-                // It has a version.
-                let _now = projection.now();
-                false
-            }
-        }
-    }
-
-    /// Whether it is a projection.
-    fn is_projection(&self) -> bool
-        ensures { result ≡ (is_carrier (last_of (known self.now).buffer) && not (is_elision (last_of (known self.now).buffer))) }
-    {
-        match self {
-            Held::Base(_) => false,
-            Held::Projection { projection, .. } => {
-                // It has a version.
-                let _now = projection.now();
-                true
-            }
-        }
-    }
-
-    /// How many members the current version has.
-    fn member_count(&self) -> u32
-        ensures { result ≡ length (members_of (last_of (known self.now).buffer)) }
-    {
-        match self {
-            Held::Base(_) => 0,
-            Held::Projection { projection, .. } => projection.members(projection.now()).count(),
-        }
-    }
-
-    /// The change lists that lead from one version to another that isn't older.
-    fn steps(&self, from: VersionNo, to: VersionNo) -> &[Changes]
-        requires order { from ≤ to }
-        requires there { to < length (known self.now).texts }
-        ensures changes { result.now ≡ slice_range (known self.now).buffer.changes from to }
-        ensures linked { AreLinked result.now }
-        ensures before { (p : ℕ) → p ≤ length (text_of (known self.now) from) → p ≤ len_before p result.now }
-        ensures after { (p : ℕ) → p ≤ length (text_of (known self.now) to) → p ≤ len_after p result.now }
-    {
-        match self {
-            Held::Base(base) => base.chain().changes_between(from, to),
-            Held::Projection { projection, .. } => projection.steps(from, to),
-        }
-    }
-
-    /// The number that each version repeats, from version 0 on.
-    fn reiterated_numbers(&self, alloc: Global) -> Result<NumberList, OutOfMemory>
-        requires { length (known self.now).buffer.records < 2 ^ 32 - 1 }
-        ensures { IfOk result (λ numbers. numbers ≡ map (reiterated_of (known self.now).buffer) (places (length (known self.now).buffer.records))) }
-    {
-        match self {
-            Held::Base(base) => base.chain().reiterated_numbers(alloc),
-            Held::Projection { projection, .. } => numbers_to(alloc, projection.now().0),
-        }
-    }
-
-    /// The region of lowest number that denies what is done at a span of the current text, asked
-    /// without editing.
-    fn denied_in(&self, hooks: &Hooks, span: Span) -> Option<RegionNo>
-        ensures { result ≡ denied_at (hook_table hooks.now) (known self.now).buffer.regions (length (known self.now).buffer.records - 1) false span }
-    {
-        match self {
-            Held::Base(base) => base.regions().denied_in(span, base.chain().now(), hooks),
-            Held::Projection { .. } => None,
-        }
-    }
-}
 
 impl Stock {
     /// A buffer that is there.

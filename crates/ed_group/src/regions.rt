@@ -5,50 +5,14 @@ ghost use Rattle.ed_base.specs.Spans.{end_of};
 ghost use Rattle.ed_layers.specs.Records.{is_carrier};
 ghost use Rattle.ed_readonly.specs.LiveRegions.{limit_passed, limit_told};
 ghost use Rattle.ed_stock.specs.Stock.{buffer, count, record_now, text_now, with_buffer};
-ghost use Rattle.ed_group.specs.Asking.{IsBase, regions_of, with_region, without_region, zoned};
+ghost use Rattle.ed_held.specs.Asking.{IsBase, regions_of, with_region, without_region, zoned};
 ghost use Rattle.ed_risen.specs.Laws.{RecordsStay};
-ghost use Rattle.ed_group.specs.Seen.{known, stock, text_of};
+ghost use Rattle.ed_held.specs.Seen.{known, stock, text_of};
 
-use crate::held::Held;
 use crate::stock::Stock;
 use ed_base::{BufferNo, EdgeMode, Name, RegionNo, Span, SpanMode};
+use ed_held::Held;
 use ed_readonly::RegionFault;
-
-impl Held {
-    /// Makes a read-only region inside the current text of a base, under the next number.
-    fn add_region(
-        &mut self,
-        span: Span,
-        mode: SpanMode,
-        edge: EdgeMode,
-        query: Option<Name>,
-    ) -> Result<RegionNo, RegionFault>
-        requires base { IsBase self.old }
-        requires within { end_of span ≤ length (text_of (known self.old) (length (known self.old).texts - 1)) }
-        ensures limit { limit_told result ≡ limit_passed (regions_of (known self.old).buffer) }
-        ensures number { IfOk result (λ number. number ≡ (known self.old).buffer.regions_given) }
-        ensures ok { OnOk result (known self.new ≡ zoned (regions_of (with_region (known self.old).buffer span mode edge query)) (known self.old)) }
-        ensures err { OnErr result (known self.new ≡ known self.old) }
-    {
-        match self {
-            Held::Base(base) => base.add_region(span, mode, edge, query),
-            Held::Projection { .. } => unreachable!(),
-        }
-    }
-
-    /// Removes the region of this number of a base. Whether it was live.
-    fn remove_region(&mut self, region: RegionNo) -> bool
-        requires { IsBase self.old }
-        ensures live { result ≡ list_any (λ r. nat_eq r.number region) (known self.old).buffer.regions }
-        ensures same { result ≡ false → known self.new ≡ known self.old }
-        ensures regions { known self.new ≡ zoned (regions_of (without_region (known self.old).buffer region)) (known self.old) }
-    {
-        match self {
-            Held::Base(base) => base.remove_region(region),
-            Held::Projection { .. } => unreachable!(),
-        }
-    }
-}
 
 impl Stock {
     /// Makes a read-only region inside the current text of a base, under the next number.

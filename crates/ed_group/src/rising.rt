@@ -2,15 +2,14 @@
 ghost use Rattle.std.specs.Prelude.{◌≡◌, ◌≢◌, ℕ, ◌-◌, ◌^◌, ◌<◌, ◌⊎◌, All, length, map, Ok, Err, Result, MatchOption, MatchResult, IfOk, Some, slice_get, slice_set};
 ghost use Rattle.std.specs.List.{list_any};
 ghost use Rattle.ed_members.specs.Steps.{steps_seen, step_seen};
-ghost use Rattle.ed_group.specs.Advancing.{Advances, CanAdvance, CanAdvanceHeld, HasAdvanced};
-ghost use Rattle.ed_group.specs.declared.held.Held.{Held};
-ghost use Rattle.ed_group.specs.Seen.{known};
-ghost use Rattle.ed_group.specs.Climbing.{CanRise, HasRisen, is_over, sources_held};
+ghost use Rattle.ed_held.specs.Advancing.{Advances, CanAdvance, CanAdvanceHeld, HasAdvanced, sources_held};
+ghost use Rattle.ed_held.specs.declared.held.Held.{Held};
+ghost use Rattle.ed_held.specs.Seen.{known};
+ghost use Rattle.ed_group.specs.Climbing.{CanRise, HasRisen, is_over};
 
-use crate::held::Held;
-use crate::moves::Move;
 use crate::sources::{has_moved, snapshots};
 use ed_base::{BufferNo, Steps, VersionNo};
+use ed_held::{Held, Move, planned, sources_of};
 use ed_members::SourceStep;
 use ed_project::{NextRecord, Projection, ProjectionFault};
 use ed_version::Snapshot;
@@ -18,72 +17,11 @@ use std::alloc::Global;
 use std::marker::Brand;
 use std::sync::ledger::{Blank, Ledger};
 
-/// Plans the next version of a projection, with a counter that is opened for it.
-fn counted<L: Ledger>(
-    alloc: Global,
-    projection: &mut Projection,
-    sources: &[Snapshot],
-    steps: &[SourceStep],
-    blank: Blank,
-) -> Result<NextRecord, ProjectionFault>
-    requires name { blank.name ≡ L.name }
-    requires parts { blank.parts ≡ L.parts }
-    requires some { 0 < blank.parts }
-    requires can { CanAdvance (steps_seen steps.now) sources.now projection.old }
-    requires number { length projection.old.versions < 2 ^ 32 - 1 }
-    ensures { Advances (steps_seen steps.now) sources.now projection.old projection.new result }
-{
-    let mut count = Steps::<L>::begin(blank);
-    projection.advance(alloc, sources, steps, &mut count)
-}
-
-/// Plans the next version of a projection.
-fn advanced(
-    alloc: Global,
-    projection: &mut Projection,
-    sources: &[Snapshot],
-    steps: &[SourceStep],
-) -> Result<NextRecord, ProjectionFault>
-    requires can { CanAdvance (steps_seen steps.now) sources.now projection.old }
-    ensures { Advances (steps_seen steps.now) sources.now projection.old projection.new result }
-{
-    if projection.is_full() {
-        return Err(ProjectionFault::OutOfMemory);
-    }
-    counted::<Brand>(alloc, projection, sources, steps, Blank::new(1))
-}
-
-/// The versions that a buffer names at its current version.
-pub fn sources_of(held: &Held) -> &[(BufferNo, VersionNo)]
-    ensures { result.now ≡ sources_held held.now }
-{
-    match held {
-        Held::Base(_) => &[],
-        Held::Projection { projection, .. } => projection.sources(projection.now()).as_slice(),
-    }
-}
-
 /// Whether a source of the buffer has moved.
 pub fn is_over(held: &Held, moves: &[Move]) -> bool
     ensures { result ≡ is_over moves.now held.now }
 {
     has_moved(moves, sources_of(held))
-}
-
-/// Plans the next version of a projection that is held.
-fn planned(
-    alloc: Global,
-    held: &mut Held,
-    sources: &[Snapshot],
-    steps: &[SourceStep],
-) -> Result<NextRecord, ProjectionFault>
-    requires { CanAdvanceHeld (steps_seen steps.now) sources.now held.old }
-    ensures { HasAdvanced (steps_seen steps.now) sources.now held.old held.new result }
-{
-    match held {
-        Held::Base(_) => Err(ProjectionFault::OutOfMemory),
-        Held::Projection { projection, .. } => advanced(alloc, projection, sources, steps),
-    }
 }
 
 /// Plans the next version of a buffer over others that have moved.

@@ -3,12 +3,11 @@ ghost use Rattle.std.specs.Prelude.{◌≡◌, ℕ, ◌<◌, All, length, map, i
 ghost use Rattle.std.specs.List.{list_any};
 ghost use Rattle.ed_base.specs.ChangeList.{step};
 ghost use Rattle.ed_members.specs.Steps.{step_seen};
-ghost use Rattle.ed_group.specs.Moves.{move_of, snapshot_after, snapshot_now};
+ghost use Rattle.ed_held.specs.Moves.{move_of, snapshot_after, snapshot_now};
 ghost use Rattle.ed_risen.specs.Rising.{plain};
 
-use crate::held::Held;
-use crate::moves::Move;
 use ed_base::{BufferNo, Changes, OutOfMemory, VersionNo};
+use ed_held::{Held, Move};
 use ed_members::{Owned, SourceStep};
 use ed_version::Snapshot;
 use std::alloc::Global;

@@ -8,19 +8,20 @@ ghost use Rattle.ed_stock.specs.Stock.{record_now};
 ghost use Rattle.ed_group.specs.Answers.{LiesIn, Refuses, members_now, spans_fault};
 ghost use Rattle.ed_group.specs.Begun.{HasBegunSpans};
 ghost use Rattle.ed_group.specs.Kept.{IsKept};
-ghost use Rattle.ed_group.specs.Seen.{known, stock};
+ghost use Rattle.ed_held.specs.Seen.{known, stock};
 ghost use Rattle.ed_group.specs.declared.counts.Counts.{Counts};
-ghost use Rattle.ed_group.specs.declared.held.Held.{Held};
-ghost use Rattle.ed_group.specs.Spanning.{CanRespan, HasReshown, HasRespanned, IsPart, Respans, held_members, refusal_of, standing_fault};
+ghost use Rattle.ed_held.specs.declared.held.Held.{Held};
+ghost use Rattle.ed_held.specs.Respanning.{CanRespan, HasRespanned, IsPart, Respans, held_members};
+ghost use Rattle.ed_group.specs.Spanning.{HasReshown, refusal_of, standing_fault};
 ghost use Rattle.ed_group.specs.declared.fault.PlanFault.{PlanFault};
 
 use crate::fault::PlanFault;
-use crate::held::Held;
 use crate::limits::units_limit;
 use crate::listing::{lengths, newest_all, sources_in};
 use crate::placing::joined;
 use ed_base::{BufferNo, Member, OutOfMemory, Refusal};
 use ed_graph::{Graph, LinkFault};
+use ed_held::{Held, members_with, respan};
 use ed_members::Members;
 use ed_project::{NextRecord, Projection};
 use ed_version::Snapshot;
@@ -60,78 +61,6 @@ fn relinked(
             Ok(linked)
         }
         Err(fault) => Err(told(&fault)),
-    }
-}
-
-/// The members of a projection that is held, with `removed` of them from `first` on replaced.
-///
-/// # Errors
-///
-/// Memory was refused.
-fn members_with(
-    alloc: Global,
-    held: &Held,
-    first: u32,
-    removed: u32,
-    members: Vec<Member>,
-) -> Result<Vec<Member>, OutOfMemory>
-    requires { first + removed ≤ length (held_members held.now) }
-    ensures { IfOk result (λ v. v.items ≡ spans_replaced (held_members held.now) first removed members.items) }
-{
-    match held {
-        Held::Base(_) => Err(OutOfMemory),
-        Held::Projection { projection, .. } => {
-            projection
-                .members(projection.now())
-                .joined(alloc, first, removed, members)
-        }
-    }
-}
-
-/// Plans the version of a projection that shows these members.
-fn respanned(
-    alloc: Global,
-    projection: &mut Projection,
-    members: Members,
-    first: u32,
-    removed: u32,
-    sources: &[Snapshot],
-) -> Result<NextRecord, OutOfMemory>
-    requires part { IsPart projection.old first removed members }
-    requires there { All (HasSource no_steps sources.now) members }
-    requires fits { members_len members ≤ 2 ^ 22 }
-    ensures { Respans sources.now projection.old projection.new first removed members result }
-{
-    if projection.is_full() {
-        return Err(OutOfMemory);
-    }
-    projection.set_spans(alloc, members, first, removed, sources)
-}
-
-/// Plans the version of a projection that is held that shows these members, which are the current
-/// ones but for `removed` of them from `first` on, over these snapshots of their sources.
-///
-/// # Errors
-///
-/// Memory was refused.
-fn respan(
-    alloc: Global,
-    held: &mut Held,
-    members: Members,
-    first: u32,
-    removed: u32,
-    sources: &[Snapshot],
-) -> Result<NextRecord, OutOfMemory>
-    requires part { CanRespan held.old first removed members }
-    requires there { All (HasSource no_steps sources.now) members }
-    requires fits { members_len members ≤ 2 ^ 22 }
-    ensures { HasRespanned sources.now held.old held.new first removed members result }
-{
-    match held {
-        Held::Base(_) => Err(OutOfMemory),
-        Held::Projection { projection, .. } => {
-            respanned(alloc, projection, members, first, removed, sources)
-        }
     }
 }
 

@@ -7,41 +7,31 @@ ghost use Rattle.ed_stock.specs.Versions.{versions_made};
 ghost use Rattle.ed_group.specs.Answers.{LiesIn, Refuses, members_now, spans_fault};
 ghost use Rattle.ed_group.specs.Begins.{LeadsTo};
 ghost use Rattle.ed_group.specs.declared.counts.Counts.{Counts};
-ghost use Rattle.ed_group.specs.Group.{IsPlanned, IsProjection, outcome};
+ghost use Rattle.ed_group.specs.Group.{IsPlanned, outcome};
+ghost use Rattle.ed_held.specs.Making.{IsProjection};
 ghost use Rattle.ed_group.specs.Kept.{IsKept};
-ghost use Rattle.ed_group.specs.declared.held.Held.{Held};
-ghost use Rattle.ed_group.specs.Seen.{known, stock};
+ghost use Rattle.ed_held.specs.declared.held.Held.{Held};
+ghost use Rattle.ed_held.specs.Seen.{known, stock};
 
 use crate::beginning::FirstMoves;
 use crate::climbing::add;
 use crate::fault::PlanFault;
 use crate::group::Group;
 use crate::grouping::group_from;
-use crate::held::Held;
 use crate::limits::members_limit;
-use crate::moves::Planned;
 use crate::spanning::begun;
 use crate::stock::Stock;
 use ed_base::{BufferNo, Member};
 use ed_graph::Graph;
+use ed_held::{Held, Planned};
 use std::alloc::Global;
-
-/// Whether it is a projection whose members can be set once more.
-fn can_turn(held: &Held) -> bool
-    ensures { result ≡ true → IsProjection held.now }
-{
-    match held {
-        Held::Base(_) => false,
-        Held::Projection { turns, .. } => *turns < u32::MAX,
-    }
-}
 
 /// Whether members of one of these buffers can be set once more.
 fn may_turn(buffers: &[Held], buffer: BufferNo) -> bool
     requires { buffer < length buffers.now }
     ensures { (h : Held) → slice_get buffers.now buffer ≡ Some h → result ≡ true → IsProjection h }
 {
-    can_turn(&buffers[buffer.0 as usize])
+    buffers[buffer.0 as usize].can_turn()
 }
 
 /// The beginning of a group to which replaced members of a projection lead: its own version.

@@ -1,11 +1,11 @@
 //! The stock as a value.
 ghost use Rattle.std.specs.Prelude.{◌≡◌, ◌<◌, length};
 ghost use Rattle.ed_stock.specs.Stock.{empty_stock};
-ghost use Rattle.ed_group.specs.Seen.{stock};
+ghost use Rattle.ed_held.specs.Seen.{stock};
 
 use crate::counts::Counts;
-use crate::held::Held;
 use ed_graph::Graph;
+use ed_held::Held;
 use std::alloc::Global;
 use std::marker::Model;
 
@@ -20,8 +20,8 @@ pub struct Stock {
 
 impl Model for Stock {
     ghost use Rattle.std.specs.Prelude.{List, map};
-    ghost use Rattle.ed_group.specs.declared.held.Held.{Held};
-    ghost use Rattle.ed_group.specs.Seen.{known};
+    ghost use Rattle.ed_held.specs.declared.held.Held.{Held};
+    ghost use Rattle.ed_held.specs.Seen.{known};
     ghost use Rattle.ed_group.specs.Kept.{IsKept};
 
     ghost Value = { List Held };

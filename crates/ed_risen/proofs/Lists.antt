@@ -189,3 +189,8 @@ index_list [] a f is = refl
 index_list (x ∷ xs) a f is =
     ap (λ y. y ∷ xs) (sym (ap f (let e : a ≡ a + 0 = omega arith in e) ∙ is 0))
     ∙ ap (λ ys. f a ∷ ys) (index_list xs (a + 1) f (λ i. ap f (let e : a + 1 + i ≡ a + suc i = omega arith in e) ∙ is (suc i)))
+
+pub get_map : {X Y : Type 0} (f : X → Y) (xs : List X) (i : ℕ) (x : X) → slice_get xs i ≡ Some x → slice_get (map f xs) i ≡ Some (f x)
+get_map f [] i x h = absurd (cc)
+get_map f (y ∷ ys) zero x h = let e : y ≡ x = cc in ap (λ z. Some (f z)) e
+get_map f (y ∷ ys) (suc i) x h = get_map f ys i x h

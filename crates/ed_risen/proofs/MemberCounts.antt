@@ -8,7 +8,7 @@ use Rattle.ed_base.specs.declared.Member.{Member}
 use Rattle.ed_layers.specs.Bounds.{member_after, members_after}
 use Rattle.ed_layers.specs.Records.{Record, base, elision, is_elision, members_of, projection}
 use Rattle.ed_layers.specs.SourceStep.{SourceStep}
-use Rattle.ed_stock.specs.Stock.{Stock, count, record_now}
+use Rattle.ed_stock.specs.Stock.{count, record_now}
 use Rattle.ed_stock.specs.Versions.{Rising, is_moved, next_record, none_given, risen_at, step_in, with_record, with_version}
 use Rattle.ed_risen.specs.Counting.{member_count}
 use Rattle.ed_risen.proofs.Growth.{grown_record_now, grown_record_other}

@@ -1,6 +1,6 @@
 -- The way that begins with first versions: it goes through the order of the graph, and a first version that is too long is the first that is.
 use Rattle.std.proofs.Common.{◌≡◌, ◌≢◌, ℕ, ◌+◌, ◌<◌, ◌≤◌, ◌^◌, true, false, List, [], ◌∷◌, ◌++◌, length, map, fold, Some, None, refl, sym, ap, ◌∙◌, subst, arith, append_assoc}
-use Rattle.std.specs.Prelude.{All, is_some}
+use Rattle.std.specs.Prelude.{is_some}
 use Rattle.std.specs.List.{AllByRecursion as Each, list_any}
 use Rattle.ed_base.specs.declared.Refusal.{Refusal}
 use Rattle.ed_base.specs.declared.Which.{Which}
@@ -123,7 +123,7 @@ module _ (s : Stock) (g : List (List ℕ)) (first : Rising) (start : IsStart s g
     first_too_long few short long =
         ap (λ (u : Rising). first_some (stock_limits u.stock)) risen_is
         ∙ first_long final.stock passed rest b (length (text_now first.stock b)) (few_left few) (order_left ∙ split) (each_among (λ c. length (text_now final.stock c) ≤ 2 ^ 22) passed (passed_short short))
-            (ap length (stays_text b (there_at passed rest b split) (among_behind b passed (b ∷ []) (among_itself b [])))) long
+        (ap length (stays_text b (there_at passed rest b split) (among_behind b passed (b ∷ []) (among_itself b [])))) long
 
   -- the same of one that alone may be
   pub only_too_long : AreFounded first.stock → ((c : ℕ) → c < count s → 0 < length (buffer first.stock c).records) → (b : ℕ) → b < count s → ((c : ℕ) → height_in g c < height_in g b → step_in first.moves c ≡ None) → over Which.Buffers s.most_buffers (count s) ≡ None

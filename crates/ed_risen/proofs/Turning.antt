@@ -1,5 +1,5 @@
 -- A stock of which the members of one buffer were set once more.
-use Rattle.std.proofs.Common.{◌≡◌, ◌≢◌, ℕ, ◌-◌, ◌<◌, ◌≤◌, ◌^◌, List, [], ◌∷◌, length, map, Option, Some, None, refl, sym, ap, ◌∙◌, subst, inl, inr, length-set}
+use Rattle.std.proofs.Common.{◌≡◌, ℕ, ◌-◌, ◌<◌, ◌≤◌, ◌^◌, List, [], ◌∷◌, length, map, Some, refl, sym, ap, ◌∙◌, subst, inl, inr, length-set}
 use Rattle.std.specs.Prelude.{slice_get, unwrap_or}
 use Rattle.std.specs.List.{AllByRecursion as Each}
 use Rattle.std.proofs.lemmas.Bool.{cases_eq}
@@ -13,7 +13,7 @@ use Rattle.ed_layers.specs.Records.{Record, base, elision, members_of, projectio
 use Rattle.ed_stock.specs.Limits.{inserted, over, placements, some_over, stock_limits, versions}
 use Rattle.ed_stock.specs.Stock.{Stock, buffer, count, graph_order, now, record_at, record_now, sources_now, text_now}
 use Rattle.ed_risen.specs.Founded.{Founded}
-use Rattle.ed_risen.specs.Counting.{turn, turned_in}
+use Rattle.ed_risen.specs.Counting.{turned_in}
 use Rattle.ed_risen.specs.Laws.{HasOneVersionEach, OneVector}
 use Rattle.ed_risen.specs.Rising.{EndsIn, Inside, IsNow, IsSettled}
 use Rattle.ed_risen.proofs.Counting.{inserted_turned, placements_turned, versions_turned}
@@ -87,4 +87,3 @@ module _ (t : Stock) (b : ℕ) (there : b < count t) where
           first_some (over Which.Buffers t.most_buffers n ∷ some_over Which.Units (2 ^ 22) us ∷ over Which.Inserted (2 ^ 27) i ∷ over Which.Versions t.most_versions w ∷ some_over Which.Members 1024 ms ∷ over Which.Placements (2 ^ 26) p ∷ [])
           ≡ first_some (over Which.Buffers t.most_buffers n' ∷ some_over Which.Units (2 ^ 22) us' ∷ over Which.Inserted (2 ^ 27) i' ∷ over Which.Versions t.most_versions w' ∷ some_over Which.Members 1024 ms' ∷ over Which.Placements (2 ^ 26) p' ∷ [])
       whole n n' us us' i i' w w' ms ms' p p' e1 e2 e3 e4 e5 e6 = rw (e1, e2, e3, e4, e5, e6) refl
-

@@ -1,8 +1,8 @@
 use Rattle.std.proofs.Common.{◌≡◌, ℕ, List, [], map, take}
 use Rattle.ed_members.specs.Steps.{step_seen}
-use Rattle.ed_group.specs.Moves.{move_seen}
+use Rattle.ed_held.specs.Moves.{move_seen}
 use Rattle.ed_group.specs.Route.{Climbs, IsRoute, Route}
-use Rattle.ed_group.specs.Seen.{known}
+use Rattle.ed_held.specs.Seen.{known}
 use Rattle.ed_group.proofs.climbing.climb.Given as goal
 
 abbrev pub invariant-loop-buffer : goal.invariant-loop-buffer

@@ -1,6 +1,6 @@
 use Rattle.std.proofs.Common.{◌≡◌, true, List, Ok, Err, inr, sym, ap, ◌∙◌}
 use Rattle.ed_members.specs.Steps.{steps_seen}
-use Rattle.ed_group.specs.declared.moves.Move.{Move}
+use Rattle.ed_held.specs.declared.moves.Move.{Move}
 use Rattle.ed_group.specs.Climbing.{goes}
 use Rattle.ed_group.proofs.Turned.{steps_are, can_turn, has_turned, went}
 use Rattle.ed_group.proofs.climbing.turn.Goals as goal

@@ -1,8 +1,8 @@
 use Rattle.std.proofs.Common.{◌≡◌, ◌++◌, ◌∷◌, [], List, map, Ok, Err, Some, sym, ap, ◌∙◌, subst, slice_get, slice_set, slice_index_or}
 use Rattle.ed_callbacks.specs.HookLists.{hook_table}
-use Rattle.ed_group.specs.declared.held.Held.{Held}
+use Rattle.ed_held.specs.declared.held.Held.{Held}
 use Rattle.ed_group.specs.Editing.{HasBegunEdit}
-use Rattle.ed_group.specs.Seen.{known}
+use Rattle.ed_held.specs.Seen.{known}
 use Rattle.ed_group.proofs.Advanced.{element}
 use Rattle.ed_group.proofs.Begun.{begun_err, begun_known, begun_lost, begun_ok, found_same, move_of_step}
 use Rattle.ed_group.proofs.editing.begin.Goals as goal

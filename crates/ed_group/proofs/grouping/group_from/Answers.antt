@@ -5,7 +5,7 @@ use Rattle.ed_group.specs.Answers.{Refuses}
 use Rattle.ed_group.specs.Begins.{landed_from}
 use Rattle.ed_group.specs.Counted.{counts_after}
 use Rattle.ed_group.specs.Limited.{limit_of}
-use Rattle.ed_group.specs.Seen.{stock}
+use Rattle.ed_held.specs.Seen.{stock}
 use Rattle.ed_group.proofs.Groups.{ended_on_way, if_grouped, on_way, stopped_on_way}
 use Rattle.ed_group.proofs.grouping.group_from.Goals as goal
 

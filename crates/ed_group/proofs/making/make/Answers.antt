@@ -1,8 +1,9 @@
 use Rattle.std.proofs.Common.{◌≡◌, ◌<◌, ℕ, List, length, map, sym, ap, ◌∙◌, subst, slice_set, slice_index_or}
-use Rattle.ed_group.specs.declared.held.Held.{Held}
-use Rattle.ed_group.specs.Group.{MayTurn, known_grown}
-use Rattle.ed_group.specs.Moves.{CanMake}
-use Rattle.ed_group.specs.Seen.{known}
+use Rattle.ed_held.specs.declared.held.Held.{Held}
+use Rattle.ed_group.specs.Group.{MayTurn}
+use Rattle.ed_held.specs.Making.{known_grown}
+use Rattle.ed_held.specs.Moves.{CanMake}
+use Rattle.ed_held.specs.Seen.{known}
 use Rattle.ed_group.proofs.Advanced.{element}
 use Rattle.ed_group.proofs.Committed.{known_set, matched_below, set_turning}
 use Rattle.ed_group.proofs.making.make.Goals as goal

@@ -1,10 +1,10 @@
 use Rattle.std.proofs.Common.{◌≡◌, ◌∷◌, List, map, fold, sym, ap, ◌∙◌, subst}
 use Rattle.std.specs.List.{AllByRecursion as Each}
 use Rattle.std.specs.Vec.Iter.{into_iter_items}
-use Rattle.ed_group.specs.declared.moves.Move.{Move}
+use Rattle.ed_held.specs.declared.moves.Move.{Move}
 use Rattle.ed_group.specs.Group.{known_moved}
-use Rattle.ed_group.specs.Moves.{AreApart, IsPlannedAt}
-use Rattle.ed_group.specs.Seen.{known}
+use Rattle.ed_held.specs.Moves.{AreApart, IsPlannedAt}
+use Rattle.ed_held.specs.Seen.{known}
 use Rattle.ed_group.proofs.Committed.{each_stays}
 use Rattle.ed_group.proofs.making.make_all.Goals as goal
 

@@ -2,8 +2,8 @@ use Rattle.std.proofs.Common.{◌≡◌, ℕ, length, map, fold}
 use Rattle.std.specs.List.{AllByRecursion as Each}
 use Rattle.std.specs.Vec.Iter.{into_iter_items}
 use Rattle.ed_group.specs.Group.{MayTurn, known_moved}
-use Rattle.ed_group.specs.Moves.{AreApart, IsPlannedAt}
-use Rattle.ed_group.specs.Seen.{known}
+use Rattle.ed_held.specs.Moves.{AreApart, IsPlannedAt}
+use Rattle.ed_held.specs.Seen.{known}
 use Rattle.ed_group.proofs.making.make_all.Given as goal
 
 abbrev pub invariant-loop-next : goal.invariant-loop-next

@@ -1,9 +1,10 @@
 use Rattle.std.proofs.Common.{ℕ, List, map, sym, ap, ◌∙◌, subst, slice_set, slice_index_or}
 use Rattle.std.specs.Prelude.{Option, MatchOption}
 use Rattle.std.specs.Option.{option_map_or}
-use Rattle.ed_group.specs.declared.held.Held.{Held}
-use Rattle.ed_group.specs.Group.{IsProjection, MayTurn, known_turned, set_known}
-use Rattle.ed_group.specs.Seen.{known}
+use Rattle.ed_held.specs.declared.held.Held.{Held}
+use Rattle.ed_held.specs.Making.{IsProjection, known_turned}
+use Rattle.ed_group.specs.Group.{MayTurn, set_known}
+use Rattle.ed_held.specs.Seen.{known}
 use Rattle.ed_group.proofs.Advanced.{element}
 use Rattle.ed_group.proofs.Committed.{known_set, matched_below}
 use Rattle.ed_group.proofs.making.turn.Goals as goal

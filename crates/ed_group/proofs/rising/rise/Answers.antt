@@ -1,9 +1,9 @@
 use Rattle.std.proofs.Common.{◌≡◌, ℕ, List, map, Some, sym, ap, ◌∙◌, subst, slice_get, slice_set, slice_index_or}
 use Rattle.ed_members.specs.Steps.{steps_seen}
-use Rattle.ed_group.specs.Advancing.{CanAdvanceHeld, HasAdvanced}
-use Rattle.ed_group.specs.declared.held.Held.{Held}
-use Rattle.ed_group.specs.Moves.{snapshot_after}
-use Rattle.ed_group.specs.Climbing.{HasRisen, sources_held, source_snapshots}
+use Rattle.ed_held.specs.Advancing.{CanAdvanceHeld, HasAdvanced, sources_held}
+use Rattle.ed_held.specs.declared.held.Held.{Held}
+use Rattle.ed_held.specs.Moves.{snapshot_after}
+use Rattle.ed_group.specs.Climbing.{HasRisen, source_snapshots}
 use Rattle.ed_group.proofs.Advanced.{element, map_set, can_held, advanced_known, risen_by}
 use Rattle.ed_group.proofs.rising.rise.Goals as goal
 

@@ -1,7 +1,7 @@
 use Rattle.std.proofs.Common.{◌≡◌, drop}
 use Rattle.std.specs.Prelude.{is_some}
 use Rattle.std.specs.List.{list_any}
-use Rattle.ed_group.specs.Moves.{move_of}
+use Rattle.ed_held.specs.Moves.{move_of}
 use Rattle.ed_group.proofs.sources.has_moved.Given as goal
 
 abbrev pub invariant-loop-source : goal.invariant-loop-source

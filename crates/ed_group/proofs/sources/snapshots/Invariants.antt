@@ -1,5 +1,5 @@
 use Rattle.std.proofs.Common.{◌≡◌, map, take}
-use Rattle.ed_group.specs.Moves.{snapshot_after}
+use Rattle.ed_held.specs.Moves.{snapshot_after}
 use Rattle.ed_group.proofs.sources.snapshots.Given as goal
 
 abbrev pub invariant-loop-source : goal.invariant-loop-source

@@ -13,8 +13,9 @@ use Rattle.ed_version.specs.declared.Snapshot.{Snapshot}
 use Rattle.ed_group.specs.Answers.{LiesIn, Refuses, members_now, spans_fault}
 use Rattle.ed_group.specs.declared.fault.PlanFault.{PlanFault}
 use Rattle.ed_group.specs.Kept.{IsKept}
-use Rattle.ed_group.specs.Seen.{known, stock}
-use Rattle.ed_group.specs.Spanning.{held_members, standing_fault}
+use Rattle.ed_held.specs.Seen.{known, stock}
+use Rattle.ed_held.specs.Respanning.{held_members}
+use Rattle.ed_group.specs.Spanning.{standing_fault}
 use Rattle.ed_group.proofs.Asked.{got}
 use Rattle.ed_group.proofs.Based.{held_len, not_passed}
 use Rattle.ed_group.proofs.Begins.{can_respan, handed_on, has_begun, long_refused, members_are, there}

@@ -3,9 +3,9 @@ use Rattle.ed_base.specs.declared.Which.{Which}
 use Rattle.ed_group.specs.Answers.{spans_fault}
 use Rattle.ed_group.specs.Climbing.{move_to}
 use Rattle.ed_group.specs.declared.fault.PlanFault.{PlanFault}
-use Rattle.ed_group.specs.declared.moves.Move.{Move}
+use Rattle.ed_held.specs.declared.moves.Move.{Move}
 use Rattle.ed_group.specs.Limited.{passed}
-use Rattle.ed_group.specs.Seen.{stock}
+use Rattle.ed_held.specs.Seen.{stock}
 use Rattle.ed_group.proofs.Begins.{handed_on}
 use Rattle.ed_group.proofs.Projected.{refuses_memory}
 use Rattle.ed_group.proofs.SpansBegins.{below_held, spans_lead}

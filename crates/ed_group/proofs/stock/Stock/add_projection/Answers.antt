@@ -9,8 +9,8 @@ use Rattle.ed_project.specs.Texts.{HasSource, no_steps, text_in, text_over, vers
 use Rattle.ed_project.specs.Records.{shown}
 use Rattle.std.proofs.Common.{◌≡◌, ◌∙◌, ℕ, ◌+◌, [], ◌∷◌, ◌++◌, map, length, ap, sym, subst, arith}
 use Rattle.ed_group.specs.Kept.{IsKept}
-use Rattle.ed_group.specs.Moves.{snapshot_now}
-use Rattle.ed_group.specs.Seen.{known, stock}
+use Rattle.ed_held.specs.Moves.{snapshot_now}
+use Rattle.ed_held.specs.Seen.{known, stock}
 use Rattle.ed_stock.specs.Making.{sources_in}
 use Rattle.ed_stock.specs.Stock.{now}
 use Rattle.ed_version.specs.declared.Snapshot.{Snapshot}

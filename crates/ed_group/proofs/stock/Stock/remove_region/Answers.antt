@@ -1,9 +1,9 @@
 use Rattle.std.proofs.Common.{ap, ◌∙◌}
 use Rattle.std.specs.Prelude.{nat_eq, slice_set}
 use Rattle.std.specs.List.{list_any}
-use Rattle.ed_group.specs.Seen.{stock}
+use Rattle.ed_held.specs.Seen.{stock}
 use Rattle.ed_stock.specs.Stock.{Buffer, buffer}
-use Rattle.ed_group.specs.Asking.{regions_of, without_region}
+use Rattle.ed_held.specs.Asking.{regions_of, without_region}
 use Rattle.ed_group.proofs.Asked.{got}
 use Rattle.ed_group.proofs.Zoned.{set_base, set_is_held, set_kept, set_stock, unset_stock}
 use Rattle.ed_group.proofs.Lasting.{zones_stay}

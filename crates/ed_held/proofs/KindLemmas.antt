@@ -1,0 +1,109 @@
+-- What is known of a buffer of each kind.
+use Rattle.std.proofs.Common.{◌≡◌, ℕ, zero, suc, ◌+◌, ◌-◌, ◌<◌, Bool, true, false, List, [], ◌∷◌, ◌++◌, length, map, Some, refl, sym, ap, ◌∙◌, arith}
+use Rattle.std.specs.Prelude.{filter, not, slice_get, unwrap_or, ◌||◌}
+use Rattle.std.specs.Option.{option_map_or}
+use Rattle.std.specs.List.{list_any, range_with_len}
+use Rattle.std.proofs.lemmas.List.{length-map, map-append}
+use Rattle.ed_base.specs.ChangeList.{step}
+use Rattle.ed_base.specs.Denial.{regions_after}
+use Rattle.ed_base.specs.Numbers.{places}
+use Rattle.ed_buffer.specs.Planning.{Base, NextVersion}
+use Rattle.ed_layers.specs.Records.{base, is_carrier, members_of}
+use Rattle.ed_project.specs.Records.{Projection, Next, record_of, shown, shown_now}
+use Rattle.ed_project.specs.declared.Shown.{Shown}
+use Rattle.ed_stock.specs.Stock.{Buffer, reiterated_in}
+use Rattle.ed_version.specs.declared.Version.{Version}
+use Rattle.ed_held.specs.Asking.{IsBase}
+use Rattle.ed_held.specs.Seen.{base_record, known, last_of, reiterated_of}
+use Rattle.ed_risen.proofs.RisingLemmas.{get_last}
+use Rattle.ed_risen.proofs.Lists.{get_map}
+use Rattle.ed_held.specs.Making.{known_grown}
+use Rattle.ed_held.specs.declared.held.Held.{Held}
+use Rattle.ed_held.specs.declared.moves.Move.{Move}
+use Rattle.ed_held.specs.declared.moves.Planned.{Planned}
+use Rattle.ed_readonly.specs.LiveRegions.{LiveRegions, is_live, is_numbered, without_region}
+use Rattle.ed_base.specs.Denial.{Region}
+use Rattle.ed_version.specs.Chain.{version}
+
+pub base_last : (vs : List Version) (i : ℕ) → is_carrier (unwrap_or (slice_get (map base_record vs) i) (base [] 0)) ≡ false
+base_last [] i = refl
+base_last (v ∷ vs) zero = refl
+base_last (v ∷ vs) (suc i) = base_last vs i
+
+pub base_members : (vs : List Version) (i : ℕ) → members_of (unwrap_or (slice_get (map base_record vs) i) (base [] 0)) ≡ []
+base_members [] i = refl
+base_members (v ∷ vs) zero = refl
+base_members (v ∷ vs) (suc i) = base_members vs i
+
+pub projection_last : (p : Projection) (turns : ℕ) → 0 < length p.versions → last_of (known (Held.Projection p turns)).buffer ≡ record_of (shown_now p)
+projection_last p turns some =
+    ap (λ n. unwrap_or (slice_get (map record_of p.versions) (n - 1)) (base [] 0)) (length-map p.versions record_of)
+    ∙ ap (λ o. unwrap_or o (base [] 0)) (get_map record_of p.versions (length p.versions - 1) (shown_now p) (get_last p.versions some (shown [] [] [])))
+
+pub base_held : (h : Held) → 0 < length (known h).buffer.records → is_carrier (last_of (known h).buffer) ≡ false → IsBase h
+base_held (Held.Base x) some bare = tt
+base_held (Held.Projection p turns) some bare = absurd (let e : is_carrier (last_of (known (Held.Projection p turns)).buffer) ≡ true = ap is_carrier (projection_last p turns (omega (arith, some, length-map p.versions record_of))) in cc)
+
+pub texts_count : (h : Held) → length (known h).texts ≡ length (known h).buffer.records
+texts_count (Held.Base x) = length-map x.chain.versions _ ∙ sym (length-map x.chain.versions _)
+texts_count (Held.Projection p turns) = length-map p.versions _ ∙ sym (length-map p.versions _)
+
+pub by_place : {X : Type 0} (f : X → ℕ) (at : ℕ → ℕ) (k : ℕ) (xs : List X) → ((i : ℕ) (x : X) → slice_get xs i ≡ Some x → at (k + i) ≡ f x) → map f xs ≡ map at (range_with_len k (length xs))
+by_place f at k [] h = refl
+by_place f at k (x ∷ xs) h =
+    ap (λ y. y ∷ map f xs) (sym (ap at (let e : k ≡ k + 0 = omega arith in e) ∙ h 0 x refl))
+    ∙ ap (λ ys. at k ∷ ys) (by_place f at (k + 1) xs (λ i y is. ap at (let e : k + 1 + i ≡ k + suc i = omega arith in e) ∙ h (suc i) y is))
+
+pub base_repeats : (x : Buffer) (vs : List Version) → x.records ≡ map base_record vs → map (λ v. v.reiterated) vs ≡ map (reiterated_of x) (places (length x.records))
+base_repeats x vs is =
+    by_place (λ v. v.reiterated) (reiterated_of x) 0 vs (λ i v there. ap (reiterated_of x) (let e : 0 + i ≡ i = omega arith in e) ∙ ap (λ rs. option_map_or (λ r. reiterated_in r i) (slice_get rs i) i) is
+    ∙ ap (λ o. option_map_or (λ r. reiterated_in r i) o i) (get_map base_record vs i v there))
+    ∙ ap (λ n. map (reiterated_of x) (places n)) (sym (ap length is ∙ length-map vs base_record))
+
+pub itself_at : (vs : List Shown) (i j : ℕ) → option_map_or (λ r. reiterated_in r j) (slice_get (map record_of vs) i) j ≡ j
+itself_at [] i j = refl
+itself_at (v ∷ vs) zero j = refl
+itself_at (v ∷ vs) (suc i) j = itself_at vs i j
+
+pub map_itself : (at : ℕ → ℕ) (xs : List ℕ) → ((i : ℕ) → at i ≡ i) → xs ≡ map at xs
+map_itself at [] h = refl
+map_itself at (x ∷ xs) h = ap (λ ys. x ∷ ys) (map_itself at xs h) ∙ ap (λ y. y ∷ map at xs) (sym (h x))
+
+pub projection_repeats : (x : Buffer) (vs : List Shown) → x.records ≡ map record_of vs → places (length vs) ≡ map (reiterated_of x) (places (length x.records))
+projection_repeats x vs is =
+    map_itself (reiterated_of x) (places (length vs)) (λ i. ap (λ rs. option_map_or (λ r. reiterated_in r i) (slice_get rs i) i) is ∙ itself_at vs i i)
+    ∙ ap (λ n. map (reiterated_of x) (places n)) (sym (ap length is ∙ length-map vs record_of))
+
+pub none_left : {X : Type 0} (p : X → Bool) (xs : List X) → list_any p xs ≡ false → filter (λ y. not (p y)) xs ≡ xs
+none_left p [] h = refl
+none_left p (y ∷ ys) h = by (p y) refl h (none_left p ys)
+  where
+    by : (q : Bool) → p y ≡ q → (q || list_any p ys) ≡ false → (list_any p ys ≡ false → filter (λ z. not (p z)) ys ≡ ys) → filter (λ z. not (p z)) (y ∷ ys) ≡ y ∷ ys
+    by true is h more = absurd (cc)
+    by false is h more = rw is (ap (λ zs. y ∷ zs) (more h))
+
+pub base_unzoned : (x y : Base) (n : ℕ) (live : Bool) → live ≡ is_live x.regions n → y.regions ≡ without_region x.regions n → y.chain ≡ x.chain → live ≡ false → known (Held.Base y) ≡ known (Held.Base x)
+base_unzoned x y n live is regions chain dead =
+    let none : filter (λ r. not (is_numbered n r)) x.regions.regions ≡ x.regions.regions = none_left (is_numbered n) x.regions.regions (sym is ∙ dead) in
+    let same : y.regions ≡ x.regions = regions ∙ ap (with_zones x.regions.given) none in
+    rw (chain, same) refl
+  where
+    with_zones : ℕ → List Region → LiveRegions
+    with_zones given rs = record { regions = rs; given = given }
+
+abbrev pub text_in : Version → List ℕ
+text_in v = v.text
+
+abbrev pub text_shown : Shown → List ℕ
+text_shown v = v.text
+
+-- one version more of a base, and of a projection
+pub base_grown : (x y : Base) (s : NextVersion) (m : Move) → m.planned ≡ Planned.Base s → y.chain.buffer ≡ x.chain.buffer → y.chain.versions ≡ x.chain.versions ++ version s.snapshot.text s.reiterated ∷ [] → y.chain.changes ≡ x.chain.changes ++ s.changes ∷ []
+    → y.regions.regions ≡ regions_after (step s.changes) x.regions.regions → y.regions.given ≡ x.regions.given → known (Held.Base y) ≡ known_grown (known (Held.Base x)) m
+base_grown x y s m is number versions changes regions given =
+    rw (is, number, versions, changes, regions, given, map-append base_record x.chain.versions (version s.snapshot.text s.reiterated ∷ []), map-append text_in x.chain.versions (version s.snapshot.text s.reiterated ∷ [])) refl
+
+pub projection_grown : (p q : Projection) (turns : ℕ) (n : Next) (m : Move) → m.planned ≡ Planned.Projection n → q.buffer ≡ p.buffer → q.versions ≡ p.versions ++ shown n.members n.sources n.snapshot.text ∷ [] → q.changes ≡ p.changes ++ n.changes ∷ []
+    → q.resolver ≡ p.resolver → known (Held.Projection q turns) ≡ known_grown (known (Held.Projection p turns)) m
+projection_grown p q turns n m is number versions changes resolver =
+    rw (is, number, versions, changes, resolver, map-append record_of p.versions (shown n.members n.sources n.snapshot.text ∷ []), map-append text_shown p.versions (shown n.members n.sources n.snapshot.text ∷ [])) refl

@@ -1,0 +1,18 @@
+use Rattle.std.proofs.Common.{sym, ap, ◌∙◌, length, ◌-◌}
+use Rattle.ed_layers.specs.Records.{members_of}
+use Rattle.ed_project.specs.Records.{version_at}
+use Rattle.ed_held.specs.declared.held.Held.{Held}
+use Rattle.ed_held.specs.Seen.{known, last_of}
+use Rattle.ed_held.proofs.KindLemmas.{base_members, projection_last}
+use Rattle.ed_held.proofs.held.Held.member_count.Goals as goal
+
+pub returns-in-Base : goal.returns-in-Base
+returns-in-Base c =
+    sym (ap (λ (h : Held). length (members_of (last_of (known h).buffer))) c.in-Base.is
+    ∙ ap length (base_members c.in-Base.field-0.chain.versions (length (known (Held.Base c.in-Base.field-0)).buffer.records - 1)))
+
+pub returns-in-Projection : goal.returns-in-Projection
+returns-in-Projection c =
+    c.count.ensures.count ∙ ap length (c.members.ensures ∙ ap (λ v. (version_at c.in-Projection.projection.versions v).members) c.now.ensures.version)
+    ∙ sym (ap (λ (h : Held). length (members_of (last_of (known h).buffer))) c.in-Projection.is
+    ∙ ap (λ r. length (members_of r)) (projection_last c.in-Projection.projection c.in-Projection.turns c.now.ensures.some))
