@@ -8,5 +8,6 @@ mod refusals;
 mod replies;
 #[cfg(test)]
 mod tests;
+mod texts;
 
 pub use lines::line;
