@@ -1,10 +1,10 @@
 -- Breaks that are told by a few units.
-use Rattle.std.proofs.Common.{◌≡◌, ℕ, zero, suc, ◌+◌, ◌-◌, ◌<◌, ◌≤◌, Bool, true, false, cond, not, ◌&&◌, ◌||◌, nat_eq, List, [], ◌∷◌, length, take, drop, Option, Some, None, refl, sym, ap, ◌∙◌, zero-add, suc-add, add-one, length-take, inl, inr, arith}
+use Rattle.std.proofs.Common.{◌≡◌, ℕ, zero, suc, ◌+◌, ◌-◌, ◌<◌, ◌≤◌, Bool, true, false, cond, not, ◌&&◌, ◌||◌, nat_eq, List, [], ◌∷◌, length, take, drop, Option, Some, refl, sym, ap, ◌∙◌, zero-add, suc-add, length-take, inl, inr, arith}
 use Rattle.std.specs.Prelude.{slice_get, slice_range}
 use Rattle.std.specs.Option.{option_map_or}
 use Rattle.std.proofs.lemmas.Bool.{cases_lt}
 use Rattle.std.proofs.lemmas.Option.{slice_get_past}
-use Rattle.ed_units.specs.Breaks.{is_at, is_before, break_len}
+use Rattle.ed_units.specs.Breaks.{is_before, break_len}
 use Rattle.ed_lines.specs.Plain.{is_plain}
 
 get_take : (n : ℕ) (xs : List ℕ) (q : ℕ) → q < n → slice_get (take n xs) q ≡ slice_get xs q
@@ -33,7 +33,7 @@ break_by_units us p = refl
 
 next_in : (us : List ℕ) (a e p : ℕ) → a ≤ p → p < e → (p + 1 < length us → p + 1 < e) → slice_get (slice_range us a e) (p - a + 1) ≡ slice_get us (p + 1)
 next_in us a e p h l more = elim (cases_lt (p + 1) e) [
-    inl in_it ↦
+  | inl in_it ↦
       let n : p - a + 1 ≡ p + 1 - a = omega (arith, h) in
       ap (slice_get (slice_range us a e)) n ∙ get_part us a e (p + 1) (omega arith) in_it
   | inr past ↦

@@ -6,5 +6,6 @@ mod lines;
 mod push;
 mod refusals;
 mod replies;
+mod texts;
 
 pub use lines::line;

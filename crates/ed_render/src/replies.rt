@@ -5,9 +5,9 @@ ghost use Rattle.ed_render.specs.Replies.{version_text, each_version, versions_t
 
 use crate::push::{Line, number, word};
 use crate::refusals::{refusal, span};
-use ed_base::{BufferNo, Change, LineSpan, OutOfMemory, Span, Units, VersionNo};
+use crate::texts::quoted_text;
+use ed_base::{BufferNo, Change, LineSpan, OutOfMemory, VersionNo};
 use ed_entry::Reply;
-use ed_text::Text;
 use ed_units::write_quoted;
 use ed_version::Snapshot;
 use std::alloc::Global;
@@ -55,26 +55,12 @@ fn edited(
     }
 }
 
-/// The units of a text, in one piece.
-fn units_of<T: Text>(alloc: Global, text: &T) -> Result<Units, OutOfMemory>
-    ensures { IfOk result (λ units. units ≡ T.units text.now) }
-{
-    let mut units = Units::of(Vec::with_capacity(alloc, text.len() as usize)?);
-    let whole = Span {
-        start: 0,
-        len: text.len(),
-    };
-    text.copy_out(whole, &mut units)?;
-    Ok(units)
-}
-
 fn text(alloc: Global, line: &mut Line, snapshot: &Snapshot) -> Result<(), OutOfMemory>
     ensures { OnOk result (line.new.items ≡ line.old.items ++ (version_text snapshot.now.buffer snapshot.now.version ++ (codes " " ++ quoted snapshot.now.text))) }
 {
     version(alloc, line, snapshot.buffer, snapshot.version)?;
     word(line, " ")?;
-    let units = units_of(alloc, &snapshot.text)?;
-    write_quoted(units.as_slice(), line)
+    quoted_text(alloc, line, &snapshot.text)
 }
 
 fn line_span(alloc: Global, line: &mut Line, at: LineSpan) -> Result<(), OutOfMemory>

@@ -118,7 +118,15 @@ impl TreeText {
         TreeText::build(alloc, content.as_slice(), steps)
     }
 
-    /// The text with other units in place of a span.
+    /// The text with other units in place of a span, which has at most 2^22 units. The old text stays,
+    /// and both share the nodes that lie apart from the span.
+    ///
+    /// Each node that is made, leaf or inner, is one step of the counter: at most `64 * (e + 1) + 2 * k`,
+    /// where k is how many units are put in, and the longer of the old and the new length is below 2^e.
+    ///
+    /// # Errors
+    ///
+    /// Memory was refused.
     pub fn splice<L: Ledger>(
         &self,
         alloc: Global,

@@ -7,4 +7,4 @@ mod quoting;
 
 pub use converting::to_units;
 pub use line_breaks::break_len;
-pub use quoting::write_quoted;
+pub use quoting::{write_quoted, write_units};

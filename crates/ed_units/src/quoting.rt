@@ -1,5 +1,5 @@
 //! Texts as they are printed: between two quotation marks, in UTF-8, with some units escaped.
-ghost use Rattle.std.specs.Prelude.{◌≡◌, ◌<◌, ◌≤◌, ◌&&◌, ◌++◌, take, drop, length, vec_len, IfOk, OnOk, OnErr, IsTrue, encode_utf8};
+ghost use Rattle.std.specs.Prelude.{◌≡◌, ℕ, true, ◌+◌, ◌<◌, ◌≤◌, ◌&&◌, List, [], ◌++◌, take, drop, length, vec_len, IfOk, OnOk, OnErr, IsTrue, encode_utf8};
 ghost use Rattle.std.specs.Char.Utf16.{surrogate_pair_char, is_high_surrogate, is_low_surrogate};
 ghost use Rattle.ed_units.specs.Quoted.{escape, is_escaped, hex_digit, quoted, quoted_unit, quoted_units};
 
@@ -31,29 +31,41 @@ fn write_marked(units: &[Unit], out: &mut Vec<u8>) -> Result<(), OutOfMemory>
     ensures front { take (vec_len out.old) out.new.items ≡ out.old.items }
 {
     out.push(b'"')?;
-    write_units(units, out)?;
+    write_units(units, true, out)?;
     out.push(b'"')?;
     Ok(())
 }
 
-// The text without its quotation marks. Where memory is refused, a beginning of it may be there.
-fn write_units(units: &[Unit], out: &mut Vec<u8>) -> Result<(), OutOfMemory>
-    ensures ok { OnOk result (out.new.items ≡ out.old.items ++ quoted_units units.now) }
+/// Puts the next units of a text at the end of `out`, as `write_quoted` prints them but without the
+/// quotation marks, and answers how many it put there: all, where `is_end` says that the text ends with
+/// them, and else all or all but the last one, whose character may go on.
+///
+/// # Errors
+///
+/// Memory was refused; `out` has the bytes that it had, and a beginning of what it should get.
+pub fn write_units(units: &[Unit], is_end: bool, out: &mut Vec<u8>) -> Result<usize, OutOfMemory>
+    ensures within { IfOk result (λ n. n ≤ length units.now) }
+    ensures most { IfOk result (λ n. length units.now ≤ n + 1) }
+    ensures all { IfOk result (λ n. is_end ≡ true → n ≡ length units.now) }
+    ensures ok { IfOk result (λ n. (rest : List ℕ) → (is_end ≡ true → rest ≡ []) → out.new.items ++ quoted_units (drop n units.now ++ rest) ≡ out.old.items ++ quoted_units (units.now ++ rest)) }
     ensures front { take (vec_len out.old) out.new.items ≡ out.old.items }
 {
+    let len = units.len();
+    let most = if is_end { len } else { len.saturating_sub(1) };
     let mut at = 0;
-    while at < units.len() {
+    while at < most {
         at += write_first(&units[at..], out)?;
     }
-    Ok(())
+    Ok(at)
 }
 
-// The first character, or the first unit where it is part of none, and how many units that is.
+// The first character, or the first unit where it is part of none, and how many units that is. Of a
+// text of one unit nothing may follow.
 fn write_first(units: &[Unit], out: &mut Vec<u8>) -> Result<usize, OutOfMemory>
     requires { 0 < length units.now }
     ensures some { IfOk result (λ n. 0 < n) }
     ensures within { IfOk result (λ n. n ≤ length units.now) }
-    ensures ok { IfOk result (λ n. out.new.items ++ quoted_units (drop n units.now) ≡ out.old.items ++ quoted_units units.now) }
+    ensures ok { IfOk result (λ n. (rest : List ℕ) → (length units.now ≤ 1 → rest ≡ []) → out.new.items ++ quoted_units (drop n units.now ++ rest) ≡ out.old.items ++ quoted_units (units.now ++ rest)) }
     ensures grown { vec_len out.old ≤ vec_len out.new }
     ensures err { OnErr result (out.new.items ≡ out.old.items) }
 {

@@ -21,6 +21,8 @@ mod texts;
 #[cfg(test)]
 mod tracking;
 #[cfg(test)]
+mod trees;
+#[cfg(test)]
 mod turns;
 #[cfg(test)]
 mod units;

@@ -1,9 +1,7 @@
 -- A unit of the run is one of the text.
-use Rattle.std.proofs.Common.{◌≡◌, ℕ, ◌+◌, ◌-◌, ◌<◌, ◌≤◌, true, Some, List, length, get_or, sym, ap, ◌∙◌, arith}
-use Rattle.std.specs.Prelude.{slice_get, slice_range}
+use Rattle.std.proofs.Common.{◌≡◌, ◌+◌, ◌-◌, ◌<◌, Some, length, get_or, sym, ap, ◌∙◌, arith}
+use Rattle.std.specs.Prelude.{slice_get}
 use Rattle.std.proofs.lemmas.Option.{slice_get-get_or}
-use Rattle.ed_units.specs.Breaks.{break_len}
-use Rattle.ed_lines.specs.Plain.{is_plain}
 use Rattle.ed_lines.proofs.Around.{get_part, plain_break}
 use Rattle.ed_lines.proofs.finding.behind_plain.Goals as goal
 

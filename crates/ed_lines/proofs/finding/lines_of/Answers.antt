@@ -1,7 +1,7 @@
 -- A break ends a line, and the last line ends with the text.
-use Rattle.std.proofs.Common.{◌≡◌, ◌<◌, arith}
+use Rattle.std.proofs.Common.{◌<◌, arith}
 use Rattle.ed_units.specs.Breaks.{break_len}
-use Rattle.ed_lines.proofs.Ahead.{found_up_to, found_line, found_all, found_skip}
+use Rattle.ed_lines.proofs.Ahead.{found_up_to, found_line, found_all}
 use Rattle.ed_lines.proofs.finding.lines_of.Goals as goal
 
 pub loop-at-preserved-then-next-at : goal.loop-at-preserved-then-next-at
