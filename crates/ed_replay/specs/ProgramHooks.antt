@@ -15,3 +15,7 @@ program_customs = (codes "sticky", CustomRule.Sticky) ∷ (codes "caret", Custom
 
 abbrev pub program_hooks : HookTable
 program_hooks = record { resolvers = program_resolvers; queries = program_queries; customs = program_customs }
+
+-- no hooks yet
+abbrev pub no_hooks : HookTable
+no_hooks = record { resolvers = []; queries = []; customs = [] }

@@ -6,7 +6,7 @@ ghost use Rattle.ed_base.specs.Hooks.{named};
 ghost use Rattle.ed_base.specs.Names.{is_name};
 ghost use Rattle.ed_callbacks.specs.Answering.{AnswersCustom, AnswersQuery};
 ghost use Rattle.ed_callbacks.specs.HookLists.{hook_table, with_custom, with_query};
-ghost use Rattle.ed_replay.specs.ProgramHooks.{program_customs, program_hooks, program_queries};
+ghost use Rattle.ed_replay.specs.ProgramHooks.{no_hooks, program_customs, program_hooks, program_queries};
 
 use ed_base::{CustomRule, Name, OutOfMemory, QueryRule};
 use ed_callbacks::{Ask, CustomTrack, Hooks, RegionQuery, Track};
@@ -89,28 +89,28 @@ fn keep_customs(
     keep_custom(alloc, hooks, "caret", CustomRule::Caret, caret)
 }
 
-/// The hooks of the program: a closure for each rule, under the rule's name.
+/// Keeps the hooks of the program where none were: a closure for each rule, under the rule's name.
 ///
 /// # Errors
 ///
 /// Memory was refused.
-pub fn hooks_of(
+pub fn keep_hooks(
     alloc: Global,
+    hooks: &mut Hooks,
     always: Ask,
     edit_only: Ask,
     even_version: Ask,
     sticky: Track,
     caret: Track,
-) -> Result<Hooks, OutOfMemory>
+) -> Result<(), OutOfMemory>
+    requires none { hook_table hooks.old ≡ no_hooks }
     requires always { AnswersQuery (Ask.pre always) (Ask.post always) QueryRule.Always }
     requires edit_only { AnswersQuery (Ask.pre edit_only) (Ask.post edit_only) QueryRule.EditOnly }
     requires even_version { AnswersQuery (Ask.pre even_version) (Ask.post even_version) QueryRule.EvenVersion }
     requires sticky { AnswersCustom (Track.pre sticky) (Track.post sticky) CustomRule.Sticky }
     requires caret { AnswersCustom (Track.pre caret) (Track.post caret) CustomRule.Caret }
-    ensures { IfOk result (λ h. hook_table h ≡ program_hooks) }
+    ensures { OnOk result (hook_table hooks.new ≡ program_hooks) }
 {
-    let mut hooks = Hooks::new(alloc);
-    keep_queries(alloc, &mut hooks, always, edit_only, even_version)?;
-    keep_customs(alloc, &mut hooks, sticky, caret)?;
-    Ok(hooks)
+    keep_queries(alloc, hooks, always, edit_only, even_version)?;
+    keep_customs(alloc, hooks, sticky, caret)
 }

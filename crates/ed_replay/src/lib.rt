@@ -10,6 +10,6 @@ mod telling;
 mod writing;
 
 pub use command_line::run;
-pub use hooks::hooks_of;
+pub use hooks::keep_hooks;
 pub use replay::replay_alone;
 pub use report::{Report, Status};

@@ -3,8 +3,9 @@
 #![tactic(auto)]
 
 use ed_base::{Edges, VersionNo};
+use ed_callbacks::Hooks;
 use ed_io::{StdSink, StdSource};
-use ed_replay::{Status, hooks_of, run};
+use ed_replay::{Status, keep_hooks, run};
 use std::io::ErrorKind;
 use std::process::ExitCode;
 use std::rt::Env;
@@ -45,7 +46,16 @@ fn main(rt: HostRuntime) -> ExitCode {
     ) else {
         return ExitCode::from(Status::Memory.exit_code());
     };
-    let Ok(hooks) = hooks_of(alloc, always, edit_only, even_version, sticky, caret) else {
+    let mut hooks = Hooks::new(alloc);
+    let Ok(()) = keep_hooks(
+        alloc,
+        &mut hooks,
+        always,
+        edit_only,
+        even_version,
+        sticky,
+        caret,
+    ) else {
         return ExitCode::from(Status::Memory.exit_code());
     };
     let status = match words(&rt) {

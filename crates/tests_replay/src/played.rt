@@ -2,8 +2,9 @@
 ghost use Rattle.std.specs.Prelude.{◌<◌};
 
 use ed_base::{Edges, VersionNo};
+use ed_callbacks::Hooks;
 use ed_io::{MemorySink, MemorySource};
-use ed_replay::{Status, hooks_of, run};
+use ed_replay::{Status, keep_hooks, run};
 use std::alloc::Global;
 use std::test::*;
 
@@ -34,8 +35,10 @@ pub fn played(
     let bytes = Vec::from_slice(alloc, script.as_bytes())?;
     let mut source = MemorySource::new(bytes, piece, vec![in alloc; failing_read]?);
     let mut sink = MemorySink::new(alloc, 1 << 22, piece, vec![in alloc; failing_write]?)?;
-    let hooks = hooks_of(
+    let mut hooks = Hooks::new(alloc);
+    keep_hooks(
         alloc,
+        &mut hooks,
         Box::new(alloc, |_version: VersionNo, _edit: bool| true)?,
         Box::new(alloc, |_version: VersionNo, edit: bool| edit)?,
         Box::new(alloc, |version: VersionNo, _edit: bool| version.0 % 2 == 0)?,
