@@ -3,6 +3,4 @@
 #![tactic(auto)]
 
 #[cfg(test)]
-mod graphs;
-#[cfg(test)]
 mod stocks;
