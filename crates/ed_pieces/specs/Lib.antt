@@ -1,3 +1,4 @@
 pub mod Runs
 pub mod Arrivals
 pub mod Order
+pub mod Trails

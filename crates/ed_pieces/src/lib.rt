@@ -7,7 +7,9 @@ mod order;
 mod part;
 mod pending;
 mod run;
+mod trails;
 
 pub use arrived::Arrived;
 pub use part::Part;
 pub use run::{Run, cut_runs};
+pub use trails::{TrailRun, Trails};
