@@ -10,9 +10,9 @@ use Rattle.ed_stock.specs.Making.{with_new}
 use Rattle.ed_stock.specs.Stock as stock
 use Rattle.ed_stock.specs.Stock.{Stock}
 use Rattle.ed_stock.specs.Versions.{Rising, versions_made}
-use Rattle.ed_group.specs.declared.fault.PlanFault.{PlanFault}
-use Rattle.ed_group.specs.Answers.{Refuses}
-use Rattle.ed_group.specs.Group.{Plan, outcome}
+use Rattle.ed_climb.specs.declared.fault.PlanFault.{PlanFault}
+use Rattle.ed_climb.specs.Refusals.{Refuses}
+use Rattle.ed_climb.specs.Group.{Plan, outcome}
 use Rattle.ed_entry.specs.declared.Reply.{Reply}
 use Rattle.ed_machine.specs.State.{State, count, with_stock}
 use Rattle.ed_machine.specs.Accepted.{Outcome, made, edited_to}

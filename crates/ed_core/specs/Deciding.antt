@@ -8,7 +8,7 @@ use Rattle.ed_layers.specs.Records.{base}
 use Rattle.ed_stock.specs.Making.{projection_of, spans_set}
 use Rattle.ed_group.specs.declared.PlanFault.{PlanFault}
 use Rattle.ed_group.specs.Answers.{base_fault, projection_fault, spans_fault, edit_fault, edit_landed}
-use Rattle.ed_group.specs.Group.{Plan}
+use Rattle.ed_climb.specs.Group.{Plan}
 use Rattle.ed_entry.specs.declared.Reply.{Reply}
 use Rattle.ed_machine.specs.State.{State}
 use Rattle.ed_machine.specs.Accepted.{Outcome, answers, made, edited_to}

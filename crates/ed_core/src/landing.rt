@@ -1,6 +1,6 @@
 //! What an answer of the stock tells.
 ghost use Rattle.std.specs.Prelude.{◌≡◌, Some, None, IfOk, OnErr};
-ghost use Rattle.ed_group.specs.Group.{IsPlanned, outcome};
+ghost use Rattle.ed_climb.specs.Group.{IsPlanned, outcome};
 ghost use Rattle.ed_risen.specs.Laws.{RecordsStay};
 ghost use Rattle.ed_group.specs.Seen.{stock as seen};
 ghost use Rattle.ed_core.specs.Deciding.{fault_told, group_told};

@@ -15,13 +15,15 @@ use Rattle.ed_stock.specs.Stock.{Stock, buffer, count, now, record_at, sources_n
 use Rattle.ed_readonly.specs.LiveRegions.{LiveRegions}
 use Rattle.ed_version.specs.Chain.{opening}
 use Rattle.ed_version.specs.declared.Version.{Version}
-use Rattle.ed_group.specs.Answers.{Refuses, base_fault, with_base}
-use Rattle.ed_group.specs.declared.counts.Counts.{Counts}
-use Rattle.ed_group.specs.declared.fault.PlanFault.{PlanFault}
+use Rattle.ed_group.specs.Answers.{base_fault, with_base}
+use Rattle.ed_climb.specs.Refusals.{Refuses}
+use Rattle.ed_climb.specs.declared.counts.Counts.{Counts}
+use Rattle.ed_climb.specs.declared.fault.PlanFault.{PlanFault}
 use Rattle.ed_held.specs.declared.held.Held.{Held}
-use Rattle.ed_group.specs.Kept.{IsKept}
-use Rattle.ed_group.specs.Limited.{new_limit, passed}
+use Rattle.ed_climb.specs.Kept.{IsKept}
+use Rattle.ed_climb.specs.Limited.{new_limit, passed}
 use Rattle.ed_held.specs.Seen.{Known, base_record, known, stock, stock_of}
+use Rattle.ed_climb.proofs.KeptNumbers.{count_len, graph_len, few}
 use Rattle.ed_risen.proofs.Counting.{inserted_new_base, new_buffer, placements_new, versions_new}
 use Rattle.ed_risen.proofs.Growth.{grown_last, grown_now, missing}
 use Rattle.ed_risen.proofs.Lists.{get_past}
@@ -29,32 +31,6 @@ use Rattle.ed_group.proofs.NewBuffer.{new_grows, new_kept, new_stock}
 use Rattle.ed_risen.proofs.OneLimit.{each_none}
 use Rattle.ed_group.proofs.NewLimits.{limits_new}
 use Rattle.ed_risen.proofs.Texts.{base_text}
-
--- ---- answers
-
-pub refuses_this : (X : Type 0) (o : Option Refusal) (r : Refusal) → o ≡ Some r → Refuses {X = X} o (Err (PlanFault.Refused r))
-refuses_this X o r is = subst (λ p. Refuses {X = X} p (Err (PlanFault.Refused r))) (sym is) (inl refl)
-
-pub refuses_none : {X : Type 0} (o : Option Refusal) (x : X) → o ≡ None → Refuses o (Ok x)
-refuses_none o x is = subst (λ p. Refuses p (Ok x)) (sym is) tt
-
-pub not_passed : (which : Which) (most n : ℕ) → passed which most n ≡ None → n ≤ most
-not_passed which most n h = elim (cases_Bool (nat_lt most n)) [
-  | inl t ↦ absurd (let e : passed which most n ≡ Some (Refusal.Limit which n) = rw t refl in let g : Some (Refusal.Limit which n) ≡ None = sym e ∙ h in cc)
-  | inr f ↦ ltb-false most n f
-]
-
--- ---- a stock
-
-module _ (ks : List Known) (graph : List (List ℕ)) (counts : Counts) (kept : IsKept ks graph counts) where
-  pub graph_len : length graph ≡ length ks
-  graph_len = ap length kept.linked ∙ length-map (places (length ks)) (sources_now (stock_of ks)) ∙ length-range_with_len 0 (length ks)
-
-  pub count_len : count (stock_of ks) ≡ length ks
-  count_len = length-map ks (λ (x : Known). x.buffer)
-
-  pub few : length ks ≤ 64
-  few = let l : count (stock_of ks) ≤ 64 = not_passed Which.Buffers 64 (count (stock_of ks)) (each_none (stock_limits (stock_of ks)) kept.within).0 in let e : count (stock_of ks) ≡ length ks = count_len in omega arith
 
 -- the text of a base that is new
 module _ (ks : List Known) (k : Known) (r : Record) (resolver : Option (List ℕ)) (buffer_is : k.buffer ≡ new_buffer r resolver) where
@@ -122,15 +98,6 @@ module _ (ks : List Known) (graph : List (List ℕ)) (counts : Counts) (kept : I
 -- ---- what is asked and answered, of buffers that are held
 
 module _ (hs : List Held) (graph : List (List ℕ)) (counts : Counts) (kept : IsKept (map known hs) graph counts) where
-  pub held_len : length graph ≡ length hs
-  held_len = graph_len (map known hs) graph counts kept ∙ length-map hs known
-
-  pub held_count : length graph ≡ count (stock hs)
-  held_count = graph_len (map known hs) graph counts kept ∙ sym (count_len (map known hs) graph counts kept)
-
-  pub held_few : length graph ≤ 64
-  held_few = let l : length (map known hs) ≤ 64 = few (map known hs) graph counts kept in let e : length graph ≡ length (map known hs) = graph_len (map known hs) graph counts kept in omega arith
-
   module _ (units : List ℕ) (m : ℕ) (cs : Counts) (m_is : m ≡ length hs) (cs_is : cs ≡ counts_with (map known hs) graph counts kept units) where
     same_limit : new_limit (m + 1) (length units) cs 0 ≡ new_limit (length (map known hs) + 1) (length units) (counts_with (map known hs) graph counts kept units) 0
     same_limit = ap (λ k. new_limit (k + 1) (length units) cs 0) (m_is ∙ sym (length-map hs known)) ∙ ap (λ k. new_limit (length (map known hs) + 1) (length units) k 0) cs_is

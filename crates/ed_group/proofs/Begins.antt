@@ -19,23 +19,24 @@ use Rattle.ed_stock.specs.Making.{sources_in, spans_replaced, spans_set}
 use Rattle.ed_stock.specs.Stock.{Stock, Buffer, count, now, record_now, sources_now, text_now}
 use Rattle.ed_stock.specs.Versions.{at_now}
 use Rattle.ed_version.specs.declared.Snapshot.{Snapshot}
-use Rattle.ed_group.specs.Answers.{LiesIn, Refuses, members_now, spans_fault}
+use Rattle.ed_group.specs.Answers.{LiesIn, members_now, spans_fault}
+use Rattle.ed_climb.specs.Refusals.{Refuses}
 use Rattle.ed_group.specs.Begun.{HasBegunSpans}
-use Rattle.ed_group.specs.declared.counts.Counts.{Counts}
-use Rattle.ed_group.specs.declared.fault.PlanFault.{PlanFault}
+use Rattle.ed_climb.specs.declared.counts.Counts.{Counts}
+use Rattle.ed_climb.specs.declared.fault.PlanFault.{PlanFault}
 use Rattle.ed_held.specs.declared.held.Held.{Held}
-use Rattle.ed_group.specs.Kept.{IsKept}
-use Rattle.ed_group.specs.Limited.{passed}
+use Rattle.ed_climb.specs.Kept.{IsKept}
+use Rattle.ed_climb.specs.Limited.{passed}
 use Rattle.ed_held.specs.Seen.{known, seen, stock}
 use Rattle.ed_held.specs.Respanning.{CanRespan, HasRespanned, Shows, held_members}
 use Rattle.ed_group.specs.Spanning.{HasReshown, spans_first, spans_route}
-use Rattle.ed_group.proofs.Advanced.{same_known}
+use Rattle.ed_climb.proofs.Advanced.{same_known}
 use Rattle.ed_held.proofs.KindLemmas.{base_last}
-use Rattle.ed_group.proofs.Based.{held_count, held_len, refuses_this}
+use Rattle.ed_climb.proofs.KeptNumbers.{held_count, held_len, refuses_this}
 use Rattle.ed_risen.proofs.Lists.{among_itself, clash}
 use Rattle.ed_group.proofs.Respanned.{linked_here, linked_len, linked_other, shown_lies}
-use Rattle.ed_group.proofs.Routes.{is_route}
-use Rattle.ed_group.proofs.Snapshots.{held_buffer, held_record, snaps, snaps_versions}
+use Rattle.ed_climb.proofs.Routes.{is_route}
+use Rattle.ed_climb.proofs.Snapshots.{held_buffer, held_record, snaps, snaps_versions}
 use Rattle.ed_group.proofs.Spanned.{spans_begin, spans_too_long}
 use Rattle.ed_risen.proofs.Limits.{few_buffers, texts_fit}
 use Rattle.ed_risen.proofs.RisingLemmas.{levels}

@@ -9,11 +9,11 @@ use Rattle.ed_buffer.specs.declared.BaseFault.{BaseFault}
 use Rattle.ed_group.specs.Editing.{HasBegunEdit, told_fault}
 use Rattle.ed_held.specs.Landing.{HasLanded}
 use Rattle.ed_held.specs.Seen.{known}
-use Rattle.ed_group.specs.declared.fault.PlanFault.{PlanFault}
+use Rattle.ed_climb.specs.declared.fault.PlanFault.{PlanFault}
 use Rattle.ed_held.specs.declared.held.Held.{Held}
 use Rattle.ed_held.specs.declared.moves.Move.{Move}
 use Rattle.ed_held.specs.declared.moves.Planned.{Planned}
-use Rattle.ed_group.proofs.Advanced.{map_set}
+use Rattle.ed_climb.proofs.Advanced.{map_set}
 use Rattle.ed_risen.proofs.Turns.{turns}
 
 abbrev pub move_of_step : ℕ → NextVersion → Move

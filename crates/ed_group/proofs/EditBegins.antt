@@ -25,18 +25,19 @@ use Rattle.ed_version.specs.declared.Version.{Version}
 use Rattle.ed_risen.specs.Counting.{member_count}
 use Rattle.ed_risen.specs.Growing.{Grows}
 use Rattle.ed_risen.specs.Start.{IsStart}
-use Rattle.ed_group.specs.Answers.{Refuses, edit_fault, edit_landed}
+use Rattle.ed_group.specs.Answers.{edit_fault, edit_landed}
+use Rattle.ed_climb.specs.Refusals.{Refuses}
 use Rattle.ed_held.specs.Asking.{IsBase}
-use Rattle.ed_group.specs.Begins.{Begins, LeadsTo, turned_rising, way}
+use Rattle.ed_climb.specs.Begins.{Begins, LeadsTo, turned_rising, way}
 use Rattle.ed_group.specs.Editing.{HasBegunEdit, IsBegun}
-use Rattle.ed_group.specs.Kept.{IsKept}
+use Rattle.ed_climb.specs.Kept.{IsKept}
 use Rattle.ed_held.specs.Landing.{CanLand, IsNextBy}
 use Rattle.ed_held.specs.Moves.{move_seen, rising_of, with_move}
-use Rattle.ed_group.specs.Route.{AreTrue, Climbs}
+use Rattle.ed_climb.specs.Route.{AreTrue, Climbs}
 use Rattle.ed_held.specs.Seen.{Known, known, last_of, stock, text_of, seen}
-use Rattle.ed_group.specs.declared.beginning.FirstMoves.{FirstMoves}
-use Rattle.ed_group.specs.declared.counts.Counts.{Counts}
-use Rattle.ed_group.specs.declared.fault.PlanFault.{PlanFault}
+use Rattle.ed_climb.specs.declared.beginning.FirstMoves.{FirstMoves}
+use Rattle.ed_climb.specs.declared.counts.Counts.{Counts}
+use Rattle.ed_climb.specs.declared.fault.PlanFault.{PlanFault}
 use Rattle.ed_held.specs.declared.held.Held.{Held}
 use Rattle.ed_held.specs.declared.moves.Move.{Move}
 use Rattle.ed_held.specs.declared.moves.Planned.{Planned}
@@ -44,14 +45,14 @@ use Rattle.ed_risen.proofs.Growth.{grown_founded, grown_last, grown_length, grow
 use Rattle.ed_risen.proofs.Limits.{few_buffers, few_members, members_fit, texts_fit}
 use Rattle.ed_risen.proofs.Starts.{first_order, only_too_long}
 use Rattle.ed_risen.proofs.Texts.{base_text}
-use Rattle.ed_group.proofs.AddedUp.{moved_count}
+use Rattle.ed_climb.proofs.AddedUp.{moved_count}
 use Rattle.ed_held.proofs.KindLemmas.{base_held, texts_count}
-use Rattle.ed_group.proofs.Asked.{held_is, held_some, held_texts}
+use Rattle.ed_climb.proofs.Asked.{held_is, held_some, held_texts}
 use Rattle.ed_group.proofs.Edited.{begins, landed_first, no_bases, now_before, text_was}
 use Rattle.ed_group.proofs.Faulted.{denial_none, fault_is, not_denied, own_fault, two}
-use Rattle.ed_group.proofs.Groups.{leads, refuses_memory}
-use Rattle.ed_group.proofs.Moved.{most_moved}
-use Rattle.ed_group.proofs.Routes.{graph_len, order_same, sources_same}
+use Rattle.ed_climb.proofs.Groups.{leads, refuses_memory}
+use Rattle.ed_climb.proofs.Moved.{most_moved}
+use Rattle.ed_climb.proofs.Routes.{graph_len, order_same, sources_same}
 use Rattle.ed_group.proofs.Projected.{sources}
 use Rattle.ed_risen.proofs.RisingLemmas.{steps}
 use Rattle.ed_risen.proofs.Turns.{turns}

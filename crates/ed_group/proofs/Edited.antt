@@ -25,17 +25,17 @@ use Rattle.ed_held.specs.declared.moves.Planned.{Planned}
 use Rattle.ed_risen.specs.Growing.{AreFounded, Grows}
 use Rattle.ed_held.specs.Moves.{CanMake, move_seen, rising_of, with_move}
 use Rattle.ed_risen.specs.Rising.{IsSettled, HasStepped, IsRisen, Rises, plain}
-use Rattle.ed_group.specs.Route.{AreTrue, Climbs, IsNewest, Route}
+use Rattle.ed_climb.specs.Route.{AreTrue, Climbs, IsNewest, Route}
 use Rattle.ed_held.specs.Seen.{base_record, known, seen, stock}
-use Rattle.ed_group.proofs.Climb.{base_sources, rising_to, snapshot_by, stepped_by}
+use Rattle.ed_climb.proofs.Climb.{base_sources, rising_to, snapshot_by, stepped_by}
 use Rattle.ed_risen.proofs.FoundedLemmas.{founded_of}
 use Rattle.ed_risen.proofs.Growth.{grown_extends, grown_founded, grown_last, grown_length, grown_now, grown_record_now, grown_record_other, grown_text_now, set_here, version_grows}
-use Rattle.ed_group.proofs.Advanced.{map_set}
+use Rattle.ed_climb.proofs.Advanced.{map_set}
 use Rattle.ed_risen.proofs.Lists.{clash, get_map}
 use Rattle.ed_held.proofs.OwnPieces.{at_other, at_own, own_changes, own_step, own_text, own_trails}
 use Rattle.ed_risen.proofs.RisingLemmas.{get_last, now_is_there}
 use Rattle.ed_risen.proofs.Texts.{base_text}
-use Rattle.ed_group.proofs.Snapshots.{held_buffer}
+use Rattle.ed_climb.proofs.Snapshots.{held_buffer}
 
 -- ---- the bases that the changes reach
 

@@ -1,7 +1,7 @@
 -- The stock without buffers.
 use Rattle.std.proofs.Common.{[], refl, arith}
 use Rattle.ed_layers.specs.Graph.{graph_order}
-use Rattle.ed_group.specs.Kept.{IsKept}
+use Rattle.ed_climb.specs.Kept.{IsKept}
 use Rattle.ed_risen.specs.Rising.{IsSettled}
 use Rattle.ed_held.specs.Seen.{stock_of}
 

@@ -14,15 +14,16 @@ use Rattle.ed_stock.specs.Landing.{base_changes, denial, denied_in, pieces_of_ch
 use Rattle.ed_stock.specs.Limits.{stock_limits}
 use Rattle.ed_stock.specs.Stock.{Stock, Buffer, buffer, count, now, record_now, text_now}
 use Rattle.ed_version.specs.Chain as chain
-use Rattle.ed_group.specs.Answers.{Refuses, edit_fault, edit_landed}
+use Rattle.ed_group.specs.Answers.{edit_fault, edit_landed}
+use Rattle.ed_climb.specs.Refusals.{Refuses}
 use Rattle.ed_group.specs.Editing.{told_fault}
 use Rattle.ed_held.specs.Seen.{base_record, seen, stock}
-use Rattle.ed_group.specs.declared.fault.PlanFault.{PlanFault}
+use Rattle.ed_climb.specs.declared.fault.PlanFault.{PlanFault}
 use Rattle.ed_held.specs.declared.held.Held.{Held}
 use Rattle.ed_group.proofs.Edited.{bases_are, no_bases}
 use Rattle.ed_risen.proofs.Lists.{or_else_none}
 use Rattle.ed_held.proofs.OwnPieces.{own_changes}
-use Rattle.ed_group.proofs.Snapshots.{held_buffer}
+use Rattle.ed_climb.proofs.Snapshots.{held_buffer}
 use Rattle.std.proofs.lemmas.List.{length-map}
 
 pub two : (o p : Option Refusal) → first_some (o ∷ p ∷ []) ≡ or_else o p

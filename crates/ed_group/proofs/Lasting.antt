@@ -4,11 +4,11 @@ use Rattle.std.specs.Prelude.{slice_get, unwrap_or}
 use Rattle.std.proofs.lemmas.Bool.{cases_eq}
 use Rattle.ed_layers.specs.Cells.{cells}
 use Rattle.ed_stock.specs.Stock.{Stock, buffer, count, record_at, with_buffer}
-use Rattle.ed_group.specs.declared.counts.Counts.{Counts}
+use Rattle.ed_climb.specs.declared.counts.Counts.{Counts}
 use Rattle.ed_held.specs.declared.held.Held.{Held}
 use Rattle.ed_held.specs.Asking.{zoned_buffer}
 use Rattle.ed_risen.specs.Founded.{Extends}
-use Rattle.ed_group.specs.Kept.{IsKept}
+use Rattle.ed_climb.specs.Kept.{IsKept}
 use Rattle.ed_risen.specs.Laws.{CurrentVector, RecordsStay}
 use Rattle.ed_held.specs.Seen.{Known, known, stock}
 use Rattle.ed_readonly.specs.LiveRegions.{LiveRegions}

@@ -13,10 +13,10 @@ use Rattle.ed_layers.specs.Records.{Record, base, projection, elision, sources_o
 use Rattle.ed_stock.specs.Limits.{inserted, versions, placements, stock_limits}
 use Rattle.ed_stock.specs.Making.{with_new}
 use Rattle.ed_stock.specs.Stock.{Stock, Buffer, buffer, now, record_at, record_now, sources_now, text_now, text_at, count}
-use Rattle.ed_group.specs.declared.counts.Counts.{Counts}
+use Rattle.ed_climb.specs.declared.counts.Counts.{Counts}
 use Rattle.ed_risen.specs.Founded.{Founded}
 use Rattle.ed_risen.specs.Growing.{Grows, AreFounded}
-use Rattle.ed_group.specs.Kept.{IsKept}
+use Rattle.ed_climb.specs.Kept.{IsKept}
 use Rattle.ed_risen.specs.Laws.{HasOneVersionEach, OneVector}
 use Rattle.ed_risen.specs.Rising.{EndsIn, Inside, IsNow, IsSettled}
 use Rattle.ed_held.specs.Seen.{Known, stock_of}

@@ -11,8 +11,8 @@ use Rattle.ed_graph.proofs.Fuel.{within_rounds}
 use Rattle.ed_layers.specs.Records.{Record, members_of}
 use Rattle.ed_stock.specs.Limits.{inserted, versions, placements, some_over, stock_limits}
 use Rattle.ed_stock.specs.Stock.{Stock, count, graph_order, record_now, sources_now, text_now}
-use Rattle.ed_group.specs.declared.counts.Counts.{Counts}
-use Rattle.ed_group.specs.Limited.{new_limit, passed}
+use Rattle.ed_climb.specs.declared.counts.Counts.{Counts}
+use Rattle.ed_climb.specs.Limited.{new_limit, passed}
 use Rattle.ed_risen.specs.Rising.{IsSettled}
 use Rattle.ed_held.specs.Seen.{Known, stock_of}
 use Rattle.ed_risen.proofs.Counting.{new_buffer}

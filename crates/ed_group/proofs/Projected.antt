@@ -24,20 +24,22 @@ use Rattle.ed_stock.specs.Making.{sources_in}
 use Rattle.ed_stock.specs.Stock.{Stock, buffer, count, now, record_at, record_now, sources_now, text_at}
 use Rattle.ed_stock.specs.Versions.{at_now}
 use Rattle.ed_version.specs.declared.Snapshot.{Snapshot}
-use Rattle.ed_group.specs.Answers.{LiesIn, Refuses, len_now, projection_fault, with_projection}
-use Rattle.ed_group.specs.declared.counts.Counts.{Counts}
-use Rattle.ed_group.specs.declared.fault.PlanFault.{PlanFault}
+use Rattle.ed_group.specs.Answers.{LiesIn, len_now, projection_fault, with_projection}
+use Rattle.ed_climb.specs.Refusals.{Refuses}
+use Rattle.ed_climb.specs.declared.counts.Counts.{Counts}
+use Rattle.ed_climb.specs.declared.fault.PlanFault.{PlanFault}
 use Rattle.ed_held.specs.declared.held.Held.{Held}
 use Rattle.ed_risen.specs.Founded.{Founded}
 use Rattle.ed_risen.specs.Growing.{Grows}
-use Rattle.ed_group.specs.Kept.{IsKept}
-use Rattle.ed_group.specs.Limited.{new_limit}
+use Rattle.ed_climb.specs.Kept.{IsKept}
+use Rattle.ed_climb.specs.Limited.{new_limit}
 use Rattle.ed_held.specs.Moves.{snapshot_now}
 use Rattle.ed_group.specs.Placed.{too_deep}
 use Rattle.ed_risen.specs.Rising.{EndsIn, IsNow, IsSettled}
-use Rattle.ed_group.specs.Route.{newest}
+use Rattle.ed_climb.specs.Route.{newest}
 use Rattle.ed_held.specs.Seen.{Known, known, stock, stock_of}
-use Rattle.ed_group.proofs.Based.{count_len, graph_len, not_passed, new_first, new_record}
+use Rattle.ed_group.proofs.Based.{new_first, new_record}
+use Rattle.ed_climb.proofs.KeptNumbers.{count_len, graph_len, not_passed}
 use Rattle.ed_risen.proofs.Counting.{inserted_new_projection, new_buffer, placements_new, versions_new}
 use Rattle.ed_risen.proofs.Settled.{all_of}
 use Rattle.ed_risen.proofs.FoundedLemmas.{each_weaker, founded_in, founded_of}
@@ -49,9 +51,9 @@ use Rattle.ed_group.proofs.NewBuffer.{map_push, named_there, new_kept, new_grows
 use Rattle.ed_risen.proofs.OneLimit.{each_none}
 use Rattle.ed_group.proofs.NewLimits.{limits_new}
 use Rattle.ed_risen.proofs.RisingLemmas.{get_last}
-use Rattle.ed_group.proofs.Routes.{greatest_above}
+use Rattle.ed_climb.proofs.Routes.{greatest_above}
 use Rattle.ed_risen.proofs.Texts.{named_text, projection_text}
-use Rattle.ed_group.proofs.Snapshots.{newest_same, snap_there, snaps, snaps_text, snaps_versions, snapshot_is}
+use Rattle.ed_climb.proofs.Snapshots.{newest_same, snap_there, snaps, snaps_text, snaps_versions, snapshot_is}
 
 -- ---- refusals that come one after the other
 

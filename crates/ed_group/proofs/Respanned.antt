@@ -16,23 +16,24 @@ use Rattle.ed_stock.specs.Linking.{cycle, depth}
 use Rattle.ed_stock.specs.Making.{sources_in, spans_replaced, spans_set}
 use Rattle.ed_stock.specs.Stock.{Stock, count, now, reaches, record_now, sources_now}
 use Rattle.ed_version.specs.declared.Snapshot.{Snapshot}
-use Rattle.ed_group.specs.Answers.{LiesIn, Refuses, len_now, members_now, spans_fault}
-use Rattle.ed_group.specs.declared.counts.Counts.{Counts}
-use Rattle.ed_group.specs.declared.fault.PlanFault.{PlanFault}
+use Rattle.ed_group.specs.Answers.{LiesIn, len_now, members_now, spans_fault}
+use Rattle.ed_climb.specs.Refusals.{Refuses}
+use Rattle.ed_climb.specs.declared.counts.Counts.{Counts}
+use Rattle.ed_climb.specs.declared.fault.PlanFault.{PlanFault}
 use Rattle.ed_held.specs.declared.held.Held.{Held}
-use Rattle.ed_group.specs.Kept.{IsKept}
+use Rattle.ed_climb.specs.Kept.{IsKept}
 use Rattle.ed_group.specs.Placed.{too_deep}
 use Rattle.ed_risen.specs.Rising.{EndsIn, Inside}
 use Rattle.ed_held.specs.Seen.{known, stock}
 use Rattle.ed_group.specs.Spanning.{standing_fault}
-use Rattle.ed_group.proofs.Based.{count_len, graph_len}
+use Rattle.ed_climb.proofs.KeptNumbers.{count_len, graph_len}
 use Rattle.ed_risen.proofs.Settled.{all_of}
 use Rattle.ed_risen.proofs.FoundedLemmas.{each_version, each_weaker}
 use Rattle.ed_risen.proofs.Sources.{Agree, IsListed, OfSource, all_listed, same_mode_fault}
 use Rattle.ed_risen.proofs.Lists.{each_append, or_else_assoc, or_else_none, each_of}
 use Rattle.ed_group.proofs.Projected.{agrees, refused_none, refuses_first}
-use Rattle.ed_group.proofs.Routes.{sources_same}
-use Rattle.ed_group.proofs.Snapshots.{snaps}
+use Rattle.ed_climb.proofs.Routes.{sources_same}
+use Rattle.ed_climb.proofs.Snapshots.{snaps}
 
 -- ---- lists
 

@@ -35,17 +35,17 @@ use Rattle.ed_risen.specs.Counting.{turned_in}
 use Rattle.ed_risen.specs.Growing.{AreFounded, Grows}
 use Rattle.ed_held.specs.Moves.{CanMake, move_of, move_seen, rising_of, with_move}
 use Rattle.ed_risen.specs.Rising.{EndsIn, HasStepped, Inside, IsNow, IsRisen, IsSettled, Rises, plain}
-use Rattle.ed_group.specs.Route.{AreTrue, Climbs, IsNewest}
+use Rattle.ed_climb.specs.Route.{AreTrue, Climbs, IsNewest}
 use Rattle.ed_held.specs.Seen.{known, seen, stock}
 use Rattle.ed_risen.specs.Start.{IsStart}
-use Rattle.ed_group.specs.Begins.{turned_rising}
+use Rattle.ed_climb.specs.Begins.{turned_rising}
 use Rattle.ed_risen.proofs.Turning.{turned_limits}
 use Rattle.ed_risen.proofs.Starts.{count_left, only_too_long, risen_is}
 use Rattle.ed_group.specs.Spanning.{below, spans_first, spans_route}
-use Rattle.ed_group.proofs.Advanced.{map_set, same_known}
+use Rattle.ed_climb.proofs.Advanced.{map_set, same_known}
 use Rattle.ed_risen.proofs.MemberCounts.{most_all}
 use Rattle.ed_risen.proofs.Lists.{among_itself, among_more, among_front, clash, each_both, among_behind, among_split, each_among, fold_append, passes, passing, each_of, get_map}
-use Rattle.ed_group.proofs.Climb.{rising_to, snapshot_by, stepped_by}
+use Rattle.ed_climb.proofs.Climb.{rising_to, snapshot_by, stepped_by}
 use Rattle.ed_risen.proofs.FoundedLemmas.{each_version, each_weaker, founded_in, founded_of}
 use Rattle.ed_risen.proofs.Growth.{missing, grown_extends, grown_founded, grown_last, grown_length, grown_now, grown_now_other, grown_record_now, grown_record_other, grown_text_now, same_growth, set_grows, set_here, set_other, version_grows}
 use Rattle.ed_risen.proofs.Order.{Comes, order_all, order_comes}
@@ -53,11 +53,11 @@ use Rattle.ed_risen.proofs.Lengths.{Fits, length_slots, length_text_over, plain_
 use Rattle.ed_risen.proofs.Sources.{IsListed, all_listed, named_among}
 use Rattle.ed_risen.proofs.OneLimit.{each_none, first_long}
 use Rattle.ed_risen.proofs.RisingLemmas.{get_last, now_is_there}
-use Rattle.ed_group.proofs.Routes.{greatest_above}
+use Rattle.ed_climb.proofs.Routes.{greatest_above}
 use Rattle.ed_risen.proofs.Texts.{named_text, projection_text, same_text}
 use Rattle.ed_risen.proofs.Turns.{NamesStay, names_stay, text_stays}
-use Rattle.ed_group.proofs.Snapshots.{held_buffer, held_record, snap_there, snaps, snaps_text}
-use Rattle.ed_group.proofs.Based.{few}
+use Rattle.ed_climb.proofs.Snapshots.{held_buffer, held_record, snap_there, snaps, snaps_text}
+use Rattle.ed_climb.proofs.KeptNumbers.{few}
 
 -- ---- lists
 

@@ -16,37 +16,38 @@ use Rattle.ed_stock.specs.Limits.{over, some_over, stock_limits}
 use Rattle.ed_stock.specs.Making.{sources_in, spans_replaced, spans_set}
 use Rattle.ed_stock.specs.Stock.{Stock, Buffer, buffer, count, graph_order, record_now, sources_now, text_now}
 use Rattle.ed_stock.specs.Versions.{Rising, none_given, risen_at, versions_made}
-use Rattle.ed_group.specs.Answers.{LiesIn, Refuses, members_now, spans_fault}
+use Rattle.ed_group.specs.Answers.{LiesIn, members_now, spans_fault}
+use Rattle.ed_climb.specs.Refusals.{Refuses}
 use Rattle.ed_group.specs.Begun.{HasBegunSpans}
-use Rattle.ed_group.specs.Begins.{Begins, LeadsTo, way}
-use Rattle.ed_group.specs.declared.beginning.FirstMoves.{FirstMoves}
+use Rattle.ed_climb.specs.Begins.{Begins, LeadsTo, way}
+use Rattle.ed_climb.specs.declared.beginning.FirstMoves.{FirstMoves}
 use Rattle.ed_members.specs.Steps.{step_seen}
 use Rattle.ed_risen.specs.Start.{IsStart}
 use Rattle.ed_risen.specs.Counting.{member_count}
 use Rattle.ed_held.specs.Moves.{move_seen, rising_of, with_move}
 use Rattle.ed_group.proofs.Begins.{not_only}
-use Rattle.ed_group.proofs.Groups.{leads}
-use Rattle.ed_group.proofs.Moved.{most_moved}
-use Rattle.ed_group.proofs.TurnedKept.{may_turn}
+use Rattle.ed_climb.proofs.Groups.{leads}
+use Rattle.ed_climb.proofs.Moved.{most_moved}
+use Rattle.ed_climb.proofs.TurnedKept.{may_turn}
 use Rattle.ed_risen.proofs.Starts.{first_order}
 use Rattle.ed_risen.proofs.Limits.{few_members, not_elision, few_buffers, units_fit}
-use Rattle.ed_group.specs.Climbing.{move_to}
-use Rattle.ed_group.specs.Counted.{AreCounts, counts_after, told}
-use Rattle.ed_group.specs.Editing.{carried_fault}
-use Rattle.ed_group.specs.Group.{IsPlanned, MayTurn, Plan, known_moved, outcome}
+use Rattle.ed_climb.specs.Climbing.{move_to}
+use Rattle.ed_climb.specs.Counted.{AreCounts, counts_after, told}
+use Rattle.ed_climb.specs.Refusals.{carried_fault}
+use Rattle.ed_climb.specs.Group.{IsPlanned, MayTurn, Plan, known_moved, outcome}
 use Rattle.ed_held.specs.Making.{IsProjection}
 use Rattle.ed_risen.specs.Growing.{Grows}
-use Rattle.ed_group.specs.Kept.{IsKept}
-use Rattle.ed_group.specs.Limited.{limit_of, passed}
-use Rattle.ed_group.specs.Route.{Climbs, HasClimbed, IsRoute, Route}
+use Rattle.ed_climb.specs.Kept.{IsKept}
+use Rattle.ed_climb.specs.Limited.{limit_of, passed}
+use Rattle.ed_climb.specs.Route.{Climbs, HasClimbed, IsRoute, Route}
 use Rattle.ed_held.specs.Seen.{Known, known, last_of, stock, stock_of, seen}
 use Rattle.ed_group.specs.Spanning.{below, spans_first, spans_route}
-use Rattle.ed_group.specs.declared.counts.Counts.{Counts}
+use Rattle.ed_climb.specs.declared.counts.Counts.{Counts}
 use Rattle.ed_held.specs.declared.held.Held.{Held}
 use Rattle.ed_held.specs.declared.moves.Move.{Move}
 use Rattle.ed_risen.proofs.MemberCounts.{as_many}
 use Rattle.ed_held.proofs.KindLemmas.{base_last, projection_last}
-use Rattle.ed_group.proofs.Asked.{held_is, held_some}
+use Rattle.ed_climb.proofs.Asked.{held_is, held_some}
 use Rattle.ed_risen.proofs.Growth.{grown_record_now, grown_record_other, version_grows}
 use Rattle.ed_risen.proofs.Lists.{clash}
 use Rattle.ed_risen.proofs.Order.{in_order, of_order}

@@ -15,18 +15,18 @@ use Rattle.ed_readonly.specs.LiveRegions.{LiveRegions, is_live, is_numbered, wit
 use Rattle.ed_stock.specs.Limits.{inserted, over, placements, some_over, stock_limits, versions}
 use Rattle.ed_stock.specs.Stock.{Stock, Buffer, buffer, count, record_now, text_at, text_now, with_buffer}
 use Rattle.ed_held.specs.Asking.{IsBase, zoned, zoned_buffer}
-use Rattle.ed_group.specs.declared.counts.Counts.{Counts}
+use Rattle.ed_climb.specs.declared.counts.Counts.{Counts}
 use Rattle.ed_held.specs.declared.held.Held.{Held}
 use Rattle.ed_risen.specs.Founded.{Founded}
-use Rattle.ed_group.specs.Kept.{IsKept}
+use Rattle.ed_climb.specs.Kept.{IsKept}
 use Rattle.ed_risen.specs.Laws.{HasOneVersionEach}
 use Rattle.ed_risen.specs.Rising.{Inside, IsSettled}
 use Rattle.ed_held.specs.Seen.{Known, known, last_of, stock, stock_of, text_of}
 use Rattle.ed_buffer.specs.Planning.{Base}
-use Rattle.ed_group.proofs.Advanced.{map_set}
+use Rattle.ed_climb.proofs.Advanced.{map_set}
 use Rattle.ed_held.proofs.KindLemmas.{base_held, texts_count}
-use Rattle.ed_group.proofs.Asked.{held_is, held_some, held_texts}
-use Rattle.ed_group.proofs.Committed.{set_map}
+use Rattle.ed_climb.proofs.Asked.{held_is, held_some, held_texts}
+use Rattle.ed_climb.proofs.Committed.{set_map}
 use Rattle.ed_risen.proofs.Counting.{inserted_changed, inserted_of, placements_changed, placements_of, versions_changed, versions_of}
 use Rattle.ed_risen.proofs.Growth.{missing, set_here, set_other}
 use Rattle.ed_risen.proofs.RisingLemmas.{Same, inside_same}

@@ -1,5 +1,5 @@
 -- What a stock answers to those who change it.
-use Rattle.std.specs.Prelude.{◌≡◌, ◌⊎◌, ℕ, ◌+◌, ◌<◌, ◌≤◌, List, [], ◌∷◌, length, Result, Ok, Err, Option, Some, None}
+use Rattle.std.specs.Prelude.{ℕ, ◌+◌, ◌<◌, ◌≤◌, List, [], ◌∷◌, length, Option, None}
 use Rattle.ed_base.specs.declared.Member.{Member}
 use Rattle.ed_base.specs.declared.Refusal.{Refusal}
 use Rattle.ed_base.specs.Numbers.{first_some}
@@ -14,14 +14,6 @@ use Rattle.ed_base.specs.ChangeList.{ChangeList}
 use Rattle.ed_base.specs.Hooks.{HookTable}
 use Rattle.ed_stock.specs.Landing.{denial, landed, pieces_of_changes}
 use Rattle.ed_stock.specs.Versions.{Rising, none_given}
-use Rattle.ed_group.specs.declared.fault.PlanFault.{PlanFault}
-
--- an answer that is this refusal where there is one, and no other; want of memory is free
-abbrev pub Refuses : {X : Type 0} → Option Refusal → Result X PlanFault → Type 0
-Refuses (Some r) (Ok x) = ⊥
-Refuses (Some r) (Err e) = (e ≡ PlanFault.Refused r) ⊎ (e ≡ PlanFault.OutOfMemory)
-Refuses None (Ok x) = Unit {0}
-Refuses None (Err e) = e ≡ PlanFault.OutOfMemory
 
 abbrev pub len_now : Stock → ℕ → ℕ
 len_now s b = length (text_now s b)

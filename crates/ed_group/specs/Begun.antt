@@ -8,9 +8,9 @@ use Rattle.ed_project.specs.Records.{Next}
 use Rattle.ed_stock.specs.Limits.{stock_limits}
 use Rattle.ed_stock.specs.Making.{sources_in, spans_replaced, spans_set}
 use Rattle.ed_group.specs.Answers.{members_now, spans_fault}
-use Rattle.ed_group.specs.Climbing.{move_to}
+use Rattle.ed_climb.specs.Climbing.{move_to}
 use Rattle.ed_held.specs.declared.held.Held.{Held}
-use Rattle.ed_group.specs.Route.{Climbs}
+use Rattle.ed_climb.specs.Route.{Climbs}
 use Rattle.ed_held.specs.Seen.{stock}
 use Rattle.ed_group.specs.Spanning.{below, spans_first, spans_route}
 

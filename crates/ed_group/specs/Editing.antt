@@ -7,9 +7,8 @@ use Rattle.ed_base.specs.declared.refusal.Which.{Which}
 use Rattle.ed_buffer.specs.Planning as buffers
 use Rattle.ed_buffer.specs.Planning.{Base, NextVersion, fault_of}
 use Rattle.ed_buffer.specs.declared.BaseFault.{BaseFault}
-use Rattle.ed_project.specs.declared.ProjectionFault.{ProjectionFault}
 use Rattle.ed_held.specs.Landing.{IsNextBy}
-use Rattle.ed_group.specs.declared.fault.PlanFault.{PlanFault}
+use Rattle.ed_climb.specs.declared.fault.PlanFault.{PlanFault}
 use Rattle.ed_held.specs.declared.held.Held.{Held}
 use Rattle.ed_held.specs.declared.moves.Move.{Move}
 use Rattle.ed_held.specs.declared.moves.Planned.{Planned}
@@ -35,8 +34,3 @@ abbrev pub HasBegunEdit : HookTable → List Held → List Held → ℕ → Held
 HasBegunEdit hooks hs hs' b (Held.Base x) c ms (Ok r) = (fault_of hooks x c ≡ None) × IsBegun hs hs' b x c ms
 HasBegunEdit hooks hs hs' b (Held.Base x) c ms (Err e) = (e ≡ PlanFault.OutOfMemory) ⊎ ((f : BaseFault) × (fault_of hooks x c ≡ Some f) × (e ≡ told_fault b f))
 HasBegunEdit hooks hs hs' b (Held.Projection p turns) c ms r = ⊥
-
--- a fault of a projection on the way as it is told
-abbrev pub carried_fault : ProjectionFault → PlanFault
-carried_fault (ProjectionFault.Units count) = PlanFault.Refused (Refusal.Limit Which.Units count)
-carried_fault ProjectionFault.OutOfMemory = PlanFault.OutOfMemory

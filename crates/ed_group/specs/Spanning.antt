@@ -17,7 +17,7 @@ use Rattle.ed_stock.specs.Versions.{Rising, with_record}
 use Rattle.ed_version.specs.declared.Snapshot.{Snapshot}
 use Rattle.ed_held.specs.declared.held.Held.{Held}
 use Rattle.ed_group.specs.Placed.{too_deep}
-use Rattle.ed_group.specs.Route.{Route}
+use Rattle.ed_climb.specs.Route.{Route}
 use Rattle.ed_held.specs.Seen.{known}
 use Rattle.ed_held.specs.Respanning.{Respans}
 use Rattle.ed_risen.proofs.RisingLemmas.{stays}

@@ -1,20 +1,19 @@
 //! New buffers.
 ghost use Rattle.std.specs.Prelude.{◌≡◌, ◌+◌, ◌<◌, ◌≤◌, ◌^◌, ◌++◌, ◌∷◌, [], All, length, map, None, IfOk, OnOk, OnErr};
 ghost use Rattle.ed_stock.specs.Stock.{count};
-ghost use Rattle.ed_group.specs.Answers.{LiesIn, Refuses, base_fault, projection_fault, with_base, with_projection};
-ghost use Rattle.ed_group.specs.Kept.{IsKept};
+ghost use Rattle.ed_group.specs.Answers.{LiesIn, base_fault, projection_fault, with_base, with_projection};
+ghost use Rattle.ed_climb.specs.Refusals.{Refuses};
+ghost use Rattle.ed_climb.specs.Kept.{IsKept};
 ghost use Rattle.ed_risen.specs.Laws.{RecordsStay};
-ghost use Rattle.ed_group.specs.Limited.{new_limit};
+ghost use Rattle.ed_climb.specs.Limited.{new_limit};
 ghost use Rattle.ed_held.specs.Seen.{known, stock};
 
-use crate::counts::Counts;
-use crate::fault::PlanFault;
-use crate::limits::new_limit;
 use crate::listing::{lengths, newest_all, sources_in, tracked};
 use crate::placing::{joined, placed};
 use crate::stock::Stock;
 use ed_base::{BufferNo, Member, OutOfMemory, Refusal, Unit};
 use ed_buffer::Base;
+use ed_climb::{Counts, PlanFault, new_limit};
 use ed_graph::Graph;
 use ed_held::Held;
 use ed_project::Projection;

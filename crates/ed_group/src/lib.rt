@@ -2,26 +2,15 @@
 #![tactic(auto)]
 
 mod adding;
-mod adding_up;
-mod beginning;
-mod climbing;
-mod counts;
 mod editing;
-mod fault;
-mod group;
-mod grouping;
-mod limits;
 mod listing;
 mod making;
 mod placing;
 mod reading;
 mod regions;
-mod rising;
-mod sources;
 mod spanning;
 mod spans;
 mod stock;
 
-pub use fault::PlanFault;
-pub use group::Group;
+pub use ed_climb::{Group, PlanFault};
 pub use stock::Stock;

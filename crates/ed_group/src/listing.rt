@@ -6,8 +6,8 @@ ghost use Rattle.ed_layers.specs.Records.{is_tracked};
 ghost use Rattle.ed_stock.specs.Making.{sources_in};
 ghost use Rattle.ed_held.specs.Moves.{snapshot_now};
 
-use crate::sources::newest;
 use ed_base::{BufferNo, Member, OutOfMemory};
+use ed_climb::{is_tracked, newest};
 use ed_held::Held;
 use ed_text::Text;
 use ed_version::Snapshot;
@@ -88,13 +88,6 @@ pub fn lengths(alloc: Global, snapshots: &[Snapshot]) -> Result<Vec<(BufferNo, u
         found.push((snapshot.buffer, snapshot.text.len()))?;
     }
     Ok(found)
-}
-
-/// Whether the member follows a source.
-pub fn is_tracked(member: &Member) -> bool
-    ensures { result ≡ is_tracked member.now }
-{
-    matches!(member, Member::Tracked { .. })
 }
 
 /// How many members follow sources.

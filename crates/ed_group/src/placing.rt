@@ -2,12 +2,12 @@
 ghost use Rattle.std.specs.Prelude.{◌≡◌, ◌+◌, ◌<◌, ◌^◌, ◌++◌, ◌∷◌, [], All, length, IfOk, MatchOption};
 ghost use Rattle.ed_graph.specs.Standing.{IsLevelled, linked};
 ghost use Rattle.ed_members.specs.Faults.{first_fault, len_in, refusal_of};
-ghost use Rattle.ed_group.specs.Answers.{Refuses};
+ghost use Rattle.ed_climb.specs.Refusals.{Refuses};
 ghost use Rattle.ed_group.specs.Placed.{too_deep};
-ghost use Rattle.ed_group.specs.declared.fault.PlanFault.{PlanFault};
+ghost use Rattle.ed_climb.specs.declared.fault.PlanFault.{PlanFault};
 
-use crate::fault::PlanFault;
 use ed_base::{BufferNo, Member, Refusal};
+use ed_climb::PlanFault;
 use ed_graph::{Graph, LinkFault};
 use ed_members::{MemberFault, Members};
 use std::alloc::Global;

@@ -3,7 +3,7 @@ ghost use Rattle.std.specs.Prelude.{◌≡◌, ◌<◌, length};
 ghost use Rattle.ed_stock.specs.Stock.{empty_stock};
 ghost use Rattle.ed_held.specs.Seen.{stock};
 
-use crate::counts::Counts;
+use ed_climb::Counts;
 use ed_graph::Graph;
 use ed_held::Held;
 use std::alloc::Global;
@@ -22,7 +22,7 @@ impl Model for Stock {
     ghost use Rattle.std.specs.Prelude.{List, map};
     ghost use Rattle.ed_held.specs.declared.held.Held.{Held};
     ghost use Rattle.ed_held.specs.Seen.{known};
-    ghost use Rattle.ed_group.specs.Kept.{IsKept};
+    ghost use Rattle.ed_climb.specs.Kept.{IsKept};
 
     ghost Value = { List Held };
 

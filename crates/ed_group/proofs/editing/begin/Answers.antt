@@ -3,7 +3,7 @@ use Rattle.ed_callbacks.specs.HookLists.{hook_table}
 use Rattle.ed_held.specs.declared.held.Held.{Held}
 use Rattle.ed_group.specs.Editing.{HasBegunEdit}
 use Rattle.ed_held.specs.Seen.{known}
-use Rattle.ed_group.proofs.Advanced.{element}
+use Rattle.ed_climb.proofs.Advanced.{element}
 use Rattle.ed_group.proofs.Begun.{begun_err, begun_known, begun_lost, begun_ok, found_same, move_of_step}
 use Rattle.ed_group.proofs.editing.begin.Goals as goal
 

@@ -2,7 +2,7 @@ use Rattle.std.proofs.Common.{None, refl, sym, ap, ◌∙◌}
 use Rattle.ed_callbacks.specs.HookLists.{hook_table}
 use Rattle.ed_group.specs.Answers.{edit_fault}
 use Rattle.ed_held.specs.Seen.{stock}
-use Rattle.ed_group.proofs.Asked.{held_at}
+use Rattle.ed_climb.proofs.Asked.{held_at}
 use Rattle.ed_group.proofs.Begins.{handed_on}
 use Rattle.ed_group.proofs.EditBegins.{begun_leads, begun_refused, can_begin}
 use Rattle.ed_group.proofs.editing.changed.Goals as goal

@@ -10,18 +10,19 @@ use Rattle.ed_stock.specs.Making.{sources_in, spans_replaced, spans_set}
 use Rattle.ed_stock.specs.Stock.{count, now}
 use Rattle.ed_base.specs.Numbers.{first_some}
 use Rattle.ed_version.specs.declared.Snapshot.{Snapshot}
-use Rattle.ed_group.specs.Answers.{LiesIn, Refuses, members_now, spans_fault}
-use Rattle.ed_group.specs.declared.fault.PlanFault.{PlanFault}
-use Rattle.ed_group.specs.Kept.{IsKept}
+use Rattle.ed_group.specs.Answers.{LiesIn, members_now, spans_fault}
+use Rattle.ed_climb.specs.Refusals.{Refuses}
+use Rattle.ed_climb.specs.declared.fault.PlanFault.{PlanFault}
+use Rattle.ed_climb.specs.Kept.{IsKept}
 use Rattle.ed_held.specs.Seen.{known, stock}
 use Rattle.ed_held.specs.Respanning.{held_members}
 use Rattle.ed_group.specs.Spanning.{standing_fault}
-use Rattle.ed_group.proofs.Asked.{got}
-use Rattle.ed_group.proofs.Based.{held_len, not_passed}
+use Rattle.ed_climb.proofs.Asked.{got}
+use Rattle.ed_climb.proofs.KeptNumbers.{held_len, not_passed}
 use Rattle.ed_group.proofs.Begins.{can_respan, handed_on, has_begun, long_refused, members_are, there}
 use Rattle.ed_group.proofs.Projected.{have_all, refuses_memory, snaps_held, sources_within}
 use Rattle.ed_group.proofs.Respanned.{all_lie, limits_left, members_refused, sources_refused}
-use Rattle.ed_group.proofs.Snapshots.{snaps}
+use Rattle.ed_climb.proofs.Snapshots.{snaps}
 use Rattle.ed_group.proofs.spanning.begun.Goals as goal
 
 pub members_with-requires : goal.members_with-requires

@@ -1,7 +1,7 @@
 use Rattle.std.proofs.Common.{◌≡◌, List, Some, sym, ap, ◌∙◌, subst, slice_get, slice_set, slice_index_or}
 use Rattle.ed_held.specs.declared.held.Held.{Held}
 use Rattle.ed_group.specs.Spanning.{HasReshown}
-use Rattle.ed_group.proofs.Advanced.{element, map_set}
+use Rattle.ed_climb.proofs.Advanced.{element, map_set}
 use Rattle.ed_group.proofs.Begins.{reshown_by, reshown_known}
 use Rattle.ed_group.proofs.spanning.reshown.Goals as goal
 

@@ -1,7 +1,8 @@
 use Rattle.std.proofs.Common.{◌∙◌, map, sym, subst, arith}
-use Rattle.ed_group.specs.Kept.{IsKept}
+use Rattle.ed_climb.specs.Kept.{IsKept}
 use Rattle.ed_held.specs.Seen.{known}
-use Rattle.ed_group.proofs.Based.{base_judged, base_put, held_count, held_few, held_len, refuses_none, refuses_this}
+use Rattle.ed_group.proofs.Based.{base_judged, base_put}
+use Rattle.ed_climb.proofs.KeptNumbers.{held_count, held_few, held_len, refuses_none, refuses_this}
 use Rattle.ed_group.proofs.Lasting.{others_stay}
 use Rattle.ed_group.proofs.stock.Stock.add_base.Goals as goal
 

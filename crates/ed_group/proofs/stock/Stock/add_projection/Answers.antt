@@ -2,21 +2,21 @@ use Rattle.std.specs.Prelude.{All, Ok, Err, count_by}
 use Rattle.std.proofs.lemmas.List.Sums.{count_by-le-length}
 use Rattle.ed_graph.specs.Standing.{linked}
 use Rattle.ed_layers.specs.Records.{is_tracked, members_len}
-use Rattle.ed_group.specs.Answers.{Refuses}
+use Rattle.ed_climb.specs.Refusals.{Refuses}
 use Rattle.ed_group.specs.Placed.{too_deep}
-use Rattle.ed_group.specs.declared.fault.PlanFault.{PlanFault}
+use Rattle.ed_climb.specs.declared.fault.PlanFault.{PlanFault}
 use Rattle.ed_project.specs.Texts.{HasSource, no_steps, text_in, text_over, versions_of}
 use Rattle.ed_project.specs.Records.{shown}
 use Rattle.std.proofs.Common.{◌≡◌, ◌∙◌, ℕ, ◌+◌, [], ◌∷◌, ◌++◌, map, length, ap, sym, subst, arith}
-use Rattle.ed_group.specs.Kept.{IsKept}
+use Rattle.ed_climb.specs.Kept.{IsKept}
 use Rattle.ed_held.specs.Moves.{snapshot_now}
 use Rattle.ed_held.specs.Seen.{known, stock}
 use Rattle.ed_stock.specs.Making.{sources_in}
 use Rattle.ed_stock.specs.Stock.{now}
 use Rattle.ed_version.specs.declared.Snapshot.{Snapshot}
-use Rattle.ed_group.proofs.Based.{held_count, held_few, held_len, refuses_none, refuses_this}
+use Rattle.ed_climb.proofs.KeptNumbers.{held_count, held_few, held_len, refuses_none, refuses_this}
 use Rattle.ed_group.proofs.Projected.{projection_stock, held_placements, passed_on, same_args, fault_first, fault_second, fault_third, have_all, projection_put, refuses_memory, snaps_held, sources_within}
-use Rattle.ed_group.proofs.Snapshots.{snaps}
+use Rattle.ed_climb.proofs.Snapshots.{snaps}
 use Rattle.ed_group.proofs.Lasting.{others_stay}
 use Rattle.ed_group.proofs.stock.Stock.add_projection.Goals as goal
 

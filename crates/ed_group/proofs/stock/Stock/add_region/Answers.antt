@@ -5,7 +5,7 @@ use Rattle.ed_readonly.specs.LiveRegions.{limit_passed}
 use Rattle.ed_held.specs.Seen.{stock}
 use Rattle.ed_stock.specs.Stock.{Buffer, buffer}
 use Rattle.ed_held.specs.Asking.{regions_of, with_region}
-use Rattle.ed_group.proofs.Asked.{got}
+use Rattle.ed_climb.proofs.Asked.{got}
 use Rattle.ed_group.proofs.Zoned.{either, if_made, if_refused, set_base, set_is_held, set_kept, set_stock, set_text, unset_kept, unset_stock}
 use Rattle.ed_group.proofs.Lasting.{all_stay, zones_stay}
 use Rattle.ed_group.proofs.stock.Stock.add_region.Goals as goal

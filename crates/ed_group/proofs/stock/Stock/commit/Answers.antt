@@ -1,7 +1,7 @@
 use Rattle.std.proofs.Common.{ap, subst}
 use Rattle.ed_risen.specs.Rising.{IsSettled}
 use Rattle.ed_held.specs.Seen.{stock}
-use Rattle.ed_group.proofs.Committed.{made_known, made_current, made_one, made_stay, made_stock}
+use Rattle.ed_climb.proofs.Committed.{made_known, made_current, made_one, made_stay, made_stock}
 use Rattle.ed_group.proofs.stock.Stock.commit.Goals as goal
 
 pub returns-clause-stock : goal.returns-clause-stock

@@ -2,7 +2,7 @@ use Rattle.std.proofs.Common.{◌≡◌, subst, None, map}
 use Rattle.ed_base.specs.Numbers.{first_some}
 use Rattle.ed_stock.specs.Limits.{stock_limits}
 use Rattle.ed_held.specs.Seen.{stock, known}
-use Rattle.ed_group.specs.Kept.{IsKept}
+use Rattle.ed_climb.specs.Kept.{IsKept}
 use Rattle.ed_risen.specs.Laws.{OneVector}
 use Rattle.ed_group.proofs.Lasting.{kept_current}
 use Rattle.ed_group.proofs.stock.Stock.count.Goals as goal

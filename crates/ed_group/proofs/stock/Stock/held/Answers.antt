@@ -1,7 +1,7 @@
 use Rattle.std.proofs.Common.{map, subst}
-use Rattle.ed_group.specs.Kept.{IsKept}
+use Rattle.ed_climb.specs.Kept.{IsKept}
 use Rattle.ed_held.specs.Seen.{known}
-use Rattle.ed_group.proofs.Asked.{got, held_is, held_number, held_some, held_few, held_texts}
+use Rattle.ed_climb.proofs.Asked.{got, held_is, held_number, held_some, held_few, held_texts}
 use Rattle.ed_group.proofs.stock.Stock.held.Goals as goal
 
 pub returns-clause-buffer : goal.returns-clause-buffer

@@ -4,7 +4,7 @@ use Rattle.std.specs.List.{list_any}
 use Rattle.ed_held.specs.Seen.{stock}
 use Rattle.ed_stock.specs.Stock.{Buffer, buffer}
 use Rattle.ed_held.specs.Asking.{regions_of, without_region}
-use Rattle.ed_group.proofs.Asked.{got}
+use Rattle.ed_climb.proofs.Asked.{got}
 use Rattle.ed_group.proofs.Zoned.{set_base, set_is_held, set_kept, set_stock, unset_stock}
 use Rattle.ed_group.proofs.Lasting.{zones_stay}
 use Rattle.ed_group.proofs.stock.Stock.remove_region.Goals as goal

@@ -1,0 +1,16 @@
+pub mod Moved
+pub mod Advanced
+pub mod KeptNumbers
+pub mod Asked
+pub mod Snapshots
+pub mod Climb
+pub mod Turned
+pub mod Looped
+pub mod Committed
+pub mod Routes
+pub mod Refused
+pub mod AddedUp
+pub mod Leaving
+pub mod Within
+pub mod TurnedKept
+pub mod Groups

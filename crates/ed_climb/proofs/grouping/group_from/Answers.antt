@@ -1,0 +1,41 @@
+use Rattle.std.proofs.Common.{Ok, Err, None, sym, subst}
+use Rattle.ed_base.specs.Numbers.{first_some}
+use Rattle.ed_stock.specs.Limits.{stock_limits}
+use Rattle.ed_climb.specs.Refusals.{Refuses}
+use Rattle.ed_climb.specs.Begins.{landed_from}
+use Rattle.ed_climb.specs.Counted.{counts_after}
+use Rattle.ed_climb.specs.Limited.{limit_of}
+use Rattle.ed_held.specs.Seen.{stock}
+use Rattle.ed_climb.proofs.Groups.{ended_on_way, if_grouped, on_way, stopped_on_way}
+use Rattle.ed_climb.proofs.grouping.group_from.Goals as goal
+
+pub climb-requires-clause-on_way : goal.climb-requires-clause-on_way
+climb-requires-clause-on_way c = on_way c.args.buffers.now c.requires.kept.0 c.args.counts.now c.requires.kept.1 c.args.first c.requires.begun c.order.result.now c.order.ensures.order
+
+pub returns-in-Err-clause-fault : goal.returns-in-Err-clause-fault
+returns-in-Err-clause-fault c =
+    subst (λ e. Refuses (first_some (stock_limits (landed_from (stock c.args.buffers.now) c.args.first).stock)) (Err e)) (sym c.carried.ensures)
+    (stopped_on_way c.args.buffers.now c.requires.kept.0 c.args.counts.now c.requires.kept.1 c.args.first c.requires.begun c.order.result.now c.order.ensures.order _ c.climb.new.buffers c.climb.new.moves.items c.in-Err.fault c.in-Err.ensures.climbed)
+
+pub returns-clause-fault : goal.returns-clause-fault
+returns-clause-fault c =
+    let ended = ended_on_way c.args.buffers.now c.requires.kept.0 c.args.counts.now c.requires.kept.1 c.args.first c.requires.begun c.order.result.now c.order.ensures.order c.climb.new.buffers c.climb.new.moves.items c.in_default.ensures.climbed in
+    subst (λ o. Refuses o c.group_of.result) (sym ended.fault) c.group_of.ensures.fault
+
+pub returns-clause-planned : goal.returns-clause-planned
+returns-clause-planned c =
+    let ended = ended_on_way c.args.buffers.now c.requires.kept.0 c.args.counts.now c.requires.kept.1 c.args.first c.requires.begun c.order.result.now c.order.ensures.order c.climb.new.buffers c.climb.new.moves.items c.in_default.ensures.climbed in
+    if_grouped (limit_of None (counts_after c.args.counts.now c.climb.new.moves.items) c.args.first.members) c.group_of.result c.group_of.ensures.fault c.group_of.ensures.moves c.group_of.ensures.turned c.group_of.ensures.graph c.group_of.ensures.counts c.group_of.ensures.versions
+    (λ made moves turned graph counts versions limit. (ended.group made moves turned graph counts versions limit).0)
+
+pub returns-clause-outcome : goal.returns-clause-outcome
+returns-clause-outcome c =
+    let ended = ended_on_way c.args.buffers.now c.requires.kept.0 c.args.counts.now c.requires.kept.1 c.args.first c.requires.begun c.order.result.now c.order.ensures.order c.climb.new.buffers c.climb.new.moves.items c.in_default.ensures.climbed in
+    if_grouped (limit_of None (counts_after c.args.counts.now c.climb.new.moves.items) c.args.first.members) c.group_of.result c.group_of.ensures.fault c.group_of.ensures.moves c.group_of.ensures.turned c.group_of.ensures.graph c.group_of.ensures.counts c.group_of.ensures.versions
+    (λ made moves turned graph counts versions limit. (ended.group made moves turned graph counts versions limit).1)
+
+pub returns-clause-versions : goal.returns-clause-versions
+returns-clause-versions c =
+    let ended = ended_on_way c.args.buffers.now c.requires.kept.0 c.args.counts.now c.requires.kept.1 c.args.first c.requires.begun c.order.result.now c.order.ensures.order c.climb.new.buffers c.climb.new.moves.items c.in_default.ensures.climbed in
+    if_grouped (limit_of None (counts_after c.args.counts.now c.climb.new.moves.items) c.args.first.members) c.group_of.result c.group_of.ensures.fault c.group_of.ensures.moves c.group_of.ensures.turned c.group_of.ensures.graph c.group_of.ensures.counts c.group_of.ensures.versions
+    (λ made moves turned graph counts versions limit. (ended.group made moves turned graph counts versions limit).2)
