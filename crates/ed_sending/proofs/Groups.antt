@@ -10,3 +10,5 @@ pub mod RecordTexts
 pub mod LandedSteps
 pub mod AcceptedEdit
 pub mod OneWay
+pub mod OwnPieces
+pub mod TypedEdit
