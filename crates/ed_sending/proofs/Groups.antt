@@ -12,3 +12,5 @@ pub mod AcceptedEdit
 pub mod OneWay
 pub mod OwnPieces
 pub mod TypedEdit
+pub mod UnitsSent
+pub mod SentInside

@@ -1,14 +1,13 @@
 -- A buffer's own changes as pieces: they stand at that buffer alone, and make of its text what the changes make.
-use Rattle.std.proofs.Common.{◌≡◌, ◌≢◌, ℕ, Bool, true, false, List, [], ◌∷◌, ◌++◌, length, map, Option, Some, None, refl, sym, ap, ◌∙◌}
+use Rattle.std.proofs.Common.{◌≡◌, ◌≢◌, ℕ, Bool, true, false, List, [], ◌∷◌, length, map, Option, Some, None, refl, sym, ap, ◌∙◌}
 use Rattle.std.specs.Prelude.{filter, flat_map, nat_eq}
 use Rattle.std.proofs.lemmas.Bool.{eq-eqb, ne_eqb}
 use Rattle.std.proofs.lemmas.List.{map-append}
 use Rattle.ed_base.specs.declared.edit.Change.{Change}
-use Rattle.ed_base.specs.declared.piece.Piece.{Piece}
 use Rattle.ed_base.specs.Edit.{edited, inserted_at, is_deleted, origins, woven}
 use Rattle.ed_base.specs.Numbers.{places}
 use Rattle.ed_base.specs.Sorting.{placed_in, sorted_by}
-use Rattle.ed_base.specs.Step.{Step, pairs_from, step_of}
+use Rattle.ed_base.specs.Step.{Step, pairs_from}
 use Rattle.ed_base.specs.ChangeList.{ChangeList, applied, step}
 use Rattle.ed_base.proofs.NormalSteps.{edit_of}
 use Rattle.ed_layers.specs.Pieces.{gone_at, marked_text, marked_units, own_piece, piece_before, piece_origins, put_at, step_of_pieces, unmarked}

@@ -1,10 +1,9 @@
 -- The normal form of an edit leads where the edit leads.
-use Rattle.std.proofs.Common.{◌≡◌, ℕ, ◌+◌, List, [], length, map, replicate, refl, sym, ap, ◌∙◌, arith, subst}
-use Rattle.std.proofs.lemmas.List.{length-replicate}
+use Rattle.std.proofs.Common.{◌≡◌, ℕ, List, [], length, map, replicate, refl, sym, ap, ◌∙◌, arith, subst}
 use Rattle.ed_base.specs.declared.edit.Change.{Change}
 use Rattle.ed_base.specs.declared.edit.Replace.{Replace}
 use Rattle.ed_base.specs.Edit.{edited, inserted_at, is_deleted, origins}
-use Rattle.ed_base.specs.ChangeList.{AreNormalFrom, ChangeList, applied, normal_form}
+use Rattle.ed_base.specs.ChangeList.{AreNormalFrom, applied, normal_form}
 use Rattle.ed_base.proofs.NormalSteps.{spliced}
 use Rattle.ed_change.proofs.Laws.{applied_spliced}
 use Rattle.ed_change.proofs.Parts.{forth, parts, forth_parts}
