@@ -10,3 +10,7 @@ pub mod RecordTexts
 pub mod LandedSteps
 pub mod AcceptedEdit
 pub mod OneWay
+pub mod OwnPieces
+pub mod TypedEdit
+pub mod UnitsSent
+pub mod SentInside

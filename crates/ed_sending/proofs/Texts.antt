@@ -3,3 +3,4 @@ pub mod PiecesAtGap
 pub mod FullText
 pub mod GapOrder
 pub mod FilteredText
+pub mod NormalForm

@@ -155,7 +155,7 @@ module _ (hooks : HookTable) (s : Stock) (lower : AreLower s) (low : NamesLower 
   abbrev pub IsAtOrBelow : ℕ → Type 0
   IsAtOrBelow b = (b < count s) × (reaches s top b ≡ true)
 
-  top_reached : reaches s top top ≡ true
+  pub top_reached : reaches s top top ≡ true
   top_reached = reach_self s low (count s) top
 
   reached_low : (c : ℕ) → reaches s top c ≡ true → (c < count s) × (height_now s c ≤ height_now s top)
