@@ -13,7 +13,7 @@ use Rattle.ed_stock.specs.Stock.{Stock, buffer, now, record_at, record_now, sour
 use Rattle.ed_stock.specs.Versions.{Rising, step_in, is_moved, at_now}
 use Rattle.ed_risen.specs.Founded.{Founded, Extends}
 use Rattle.ed_risen.specs.Growing.{Grows, AreFounded}
-use Rattle.ed_risen.specs.Rising.{IsNow, EndsIn, Inside, IsLow, IsSettled, IsRisen, HasStepped, Rises, plain}
+use Rattle.ed_risen.specs.Rising.{IsNow, EndsIn, Inside, IsLow, IsSettled, IsRisen, HasStepped, Rises}
 use Rattle.ed_risen.proofs.FoundedLemmas.{each_weaker, each_version, founded_of, founded_in, founded_more}
 use Rattle.ed_risen.proofs.Lists.{each_both}
 use Rattle.ed_risen.proofs.Texts.{same_text}
@@ -182,7 +182,7 @@ module _ (s : Stock) (height : ℕ → ℕ) (settled : IsSettled s) (start done 
     -- ---- it steps
 
     module _ (members : List Member) (sources : List (ℕ × ℕ)) (is : record_now s b ≡ projection members sources) (new : List Member) (m : SourceStep) (u : Stock)
-        (grows : Grows r.stock u b (projection new (at_now r.stock sources))) (same_count : count u ≡ count r.stock) (no_trails : m ≡ plain m.step)
+        (grows : Grows r.stock u b (projection new (at_now r.stock sources))) (same_count : count u ≡ count r.stock)
         (from : m.step.old_len ≡ length (text_now s b)) (to : m.step.new_len ≡ length (text_now u b)) (new_inside : Each (EndsIn r.stock (at_now r.stock sources)) new) where
       abbrev after : Rising
       after = record { stock = u; moves = r.moves ++ (b, m) ∷ [] }
@@ -249,7 +249,6 @@ module _ (s : Stock) (height : ℕ → ℕ) (settled : IsSettled s) (start done 
         longer = grown_length r.stock u b next grows ∙ ap (λ rs. suc (length rs)) (rises.unmoved b still);
         from = from;
         to = to;
-        trails = no_trails;
       }
 
       stepped_other : (c : ℕ) (n : SourceStep) → step_in r.moves c ≡ Some n → HasStepped s u c n
@@ -261,7 +260,6 @@ module _ (s : Stock) (height : ℕ → ℕ) (settled : IsSettled s) (start done 
             longer = ap length (grows.others c ne) ∙ was.longer;
             from = was.from;
             to = was.to ∙ ap length (sym (grown_text_now r.stock u b next grows rises.founded c ne (some_records c was.there)));
-            trails = was.trails;
           }
 
       moved_after : (c : ℕ) (n : SourceStep) (o : Option SourceStep) → step_in r.moves c ≡ o → step_in after.moves c ≡ Some n → HasStepped s u c n

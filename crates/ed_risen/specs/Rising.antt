@@ -55,7 +55,6 @@ pub record HasStepped (s t : Stock) (b : ℕ) (m : SourceStep) : Type 0 where
   pub longer : length (buffer t b).records ≡ suc (length (buffer s b).records)
   pub from : m.step.old_len ≡ length (text_now s b)
   pub to : m.step.new_len ≡ length (text_now t b)
-  pub trails : m ≡ plain m.step
 
 -- From the stock s on, the buffers listed are done; those of the start may have other sources than before.
 pub record Rises (s : Stock) (height : ℕ → ℕ) (start done : List ℕ) (r : Rising) : Type 0 where
