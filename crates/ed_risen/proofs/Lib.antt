@@ -16,3 +16,4 @@ pub mod Turning
 pub mod Starts
 pub mod Limits
 pub mod PlainTurns
+pub mod Covering
