@@ -10,3 +10,4 @@ pub mod RecordTexts
 pub mod LandedSteps
 pub mod AcceptedEdit
 pub mod OneWay
+pub mod SettledStocks
