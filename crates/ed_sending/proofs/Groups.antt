@@ -11,3 +11,4 @@ pub mod LandedSteps
 pub mod AcceptedEdit
 pub mod OneWay
 pub mod SettledStocks
+pub mod Advances

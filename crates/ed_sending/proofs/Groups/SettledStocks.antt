@@ -1,7 +1,6 @@
 -- A settled stock whose graph has levels is ready for an edit.
 use Rattle.std.proofs.Common.{◌≡◌, ℕ, zero, suc, ◌-◌, ◌<◌, ◌≤◌, Bool, true, false, not, ◌&&◌, List, [], ◌∷◌, length, map, Some, None, inl, inr, refl, sym, ap, ◌∙◌, arith, subst}
 use Rattle.std.specs.Prelude.{All, nat_eq, slice_get, unwrap_or}
-use Rattle.std.specs.List.{AllByRecursion}
 use Rattle.std.proofs.lemmas.Bool.{cases_eq, cases_lt, eqb-true}
 use Rattle.std.proofs.lemmas.List.Elements.{All-get_or, recursion_from_All}
 use Rattle.ed_base.specs.declared.edit.Span.{Span}
@@ -31,20 +30,16 @@ use Rattle.ed_stock.specs.Stock.{Stock, buffer, count, now, record_at, record_no
 
 -- ---- lists
 
-each_as : {X : Type 0} (P : X → Type 0) (xs : List X) → AllByRecursion P xs → Each P xs
-each_as P [] a = tt
-each_as P (x ∷ xs) a = (a.0, each_as P xs a.1)
-
-each_got : {X : Type 0} (P : X → Type 0) (xs : List X) (k : ℕ) (x : X) → AllByRecursion P xs → slice_get xs k ≡ Some x → P x
+each_got : {X : Type 0} (P : X → Type 0) (xs : List X) (k : ℕ) (x : X) → Each P xs → slice_get xs k ≡ Some x → P x
 each_got P [] k x a is = absurd (let e : None ≡ Some x = is in cc)
 each_got P (y ∷ ys) zero x a is = let e : y ≡ x = cc in subst P e a.0
 each_got P (y ∷ ys) (suc k) x a is = each_got P ys k x a.1 is
 
-each_two : (P Q : ℕ → Type 0) (xs : List ℕ) → AllByRecursion P xs → AllByRecursion Q xs → AllByRecursion (λ x. P x × Q x) xs
+each_two : (P Q : ℕ → Type 0) (xs : List ℕ) → Each P xs → Each Q xs → Each (λ x. P x × Q x) xs
 each_two P Q [] a b = tt
 each_two P Q (x ∷ xs) a b = ((a.0, b.0), each_two P Q xs a.1 b.1)
 
-of_names : (P : ℕ → Type 0) (vs : List (ℕ × ℕ)) → AllByRecursion P (map (λ v. v.0) vs) → AllByRecursion (λ v. P v.0) vs
+of_names : (P : ℕ → Type 0) (vs : List (ℕ × ℕ)) → Each P (map (λ v. v.0) vs) → Each (λ v. P v.0) vs
 of_names P [] a = tt
 of_names P (v ∷ vs) a = (a.0, of_names P vs a.1)
 
@@ -84,23 +79,23 @@ module _ (s : Stock) (graph : List (List ℕ)) (settled : IsSettled s) (levelled
   abbrev StandsLower : ℕ → ℕ → Type 0
   StandsLower c b = (b < count s) × (height_now s b < height_now s c)
 
-  low_in : (c : ℕ) → c < length graph → AllByRecursion (λ b. (b < length graph) × (height_in graph b < height_in graph c)) (sources_in graph c)
+  low_in : (c : ℕ) → c < length graph → Each (λ b. (b < length graph) × (height_in graph b < height_in graph c)) (sources_in graph c)
   low_in c there = each_two (λ b. b < length graph) (λ b. height_in graph b < height_in graph c) (sources_in graph c)
       (recursion_from_All (λ b. b < length graph) (sources_in graph c) (All-get_or (All (λ b. b < length graph)) graph c [] there levelled.within))
       (recursion_from_All (λ b. height_in graph b < height_in graph c) (sources_in graph c) (levelled.lower c))
 
-  low_now : (c : ℕ) → c < count s → AllByRecursion (StandsLower c) (sources_now s c)
+  low_now : (c : ℕ) → c < count s → Each (StandsLower c) (sources_now s c)
   low_now c there =
-      subst (λ (f : ℕ → ℕ). AllByRecursion (λ b. (b < count s) × (f b < f c)) (sources_now s c)) (λ i b. same_height b i)
-      (subst (λ n. AllByRecursion (λ b. (b < n) × (height_in graph b < height_in graph c)) (sources_now s c)) as_long
-      (subst (λ (f : ℕ → List ℕ). AllByRecursion (λ b. (b < length graph) × (height_in graph b < height_in graph c)) (f c)) same (low_in c (subst (λ n. c < n) (sym as_long) there))))
+      subst (λ (f : ℕ → ℕ). Each (λ b. (b < count s) × (f b < f c)) (sources_now s c)) (λ i b. same_height b i)
+      (subst (λ n. Each (λ b. (b < n) × (height_in graph b < height_in graph c)) (sources_now s c)) as_long
+      (subst (λ (f : ℕ → List ℕ). Each (λ b. (b < length graph) × (height_in graph b < height_in graph c)) (f c)) same (low_in c (subst (λ n. c < n) (sym as_long) there))))
 
-  low_names : (c : ℕ) → c < count s → AllByRecursion (λ v. StandsLower c v.0) (sources_of (record_now s c))
+  low_names : (c : ℕ) → c < count s → Each (λ v. StandsLower c v.0) (sources_of (record_now s c))
   low_names c there = of_names (StandsLower c) (sources_of (record_now s c)) (low_now c there)
 
   -- the sources that are named stand lower
   pub names_lower_of : NamesLower s
-  names_lower_of c there = each_as (λ v. StandsLower c v.0) (sources_of (record_now s c)) (low_names c there)
+  names_lower_of c there = low_names c there
 
   module _ (c : ℕ) (members : List Member) (from : List (ℕ × ℕ)) (is : record_now s c ≡ projection members from) where
     there_of : c < count s
@@ -117,14 +112,14 @@ module _ (s : Stock) (graph : List (List ℕ)) (settled : IsSettled s) (levelled
       named_now = (each_got (EndsIn s from) members k (Member.Tracked b x mode) stand_of.ends at).0
 
       lower_of : StandsLower c b
-      lower_of = each_version (λ v. StandsLower c v.0) from b (now s b) (subst (λ (r : Record). AllByRecursion (λ v. StandsLower c v.0) (sources_of r)) is (low_names c there_of)) named_now
+      lower_of = each_version (λ v. StandsLower c v.0) from b (now s b) (subst (λ (r : Record). Each (λ v. StandsLower c v.0) (sources_of r)) is (low_names c there_of)) named_now
 
       founded_of : Founded (record_at s) 8 (b, now s b)
       founded_of =
           let some : 0 < length (buffer s c).records = settled.some c there_of in
-          let r : (r : Record) × (record_at s c (now s c) ≡ Some r) × AllByRecursion (Founded (record_at s) 8) (sources_of r) = founded_record (record_at s) 8 (c, now s c) (settled.founded c (now s c) (omega arith)) in
+          let r : (r : Record) × (record_at s c (now s c) ≡ Some r) × Each (Founded (record_at s) 8) (sources_of r) = founded_record (record_at s) 8 (c, now s c) (settled.founded c (now s c) (omega arith)) in
           let e : r.0 ≡ projection members from = sym (ap (λ o. unwrap_or o (base [] 0)) r.1) ∙ is in
-          each_version (Founded (record_at s) 8) from b (now s b) (subst (λ (q : Record). AllByRecursion (Founded (record_at s) 8) (sources_of q)) e r.2) named_now
+          each_version (Founded (record_at s) 8) from b (now s b) (subst (λ (q : Record). Each (Founded (record_at s) 8) (sources_of q)) e r.2) named_now
 
       cells_of : map unit_in (cells_within (record_at s) 8 b (now s b)) ≡ text_now s b
       cells_of = ap (map unit_in) (same_cells (record_at s) (record_at s) (λ a v r h. h) 8 9 (b, now s b) (omega arith) founded_of)
