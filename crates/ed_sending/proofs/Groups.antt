@@ -12,3 +12,4 @@ pub mod AcceptedEdit
 pub mod OneWay
 pub mod SettledStocks
 pub mod Advances
+pub mod SentUnits
