@@ -15,3 +15,5 @@ pub mod Counting
 pub mod Turning
 pub mod Starts
 pub mod Limits
+pub mod PlainTurns
+pub mod Covering

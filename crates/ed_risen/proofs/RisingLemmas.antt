@@ -2,6 +2,7 @@
 use Rattle.std.proofs.Common.{◌≡◌, ◌≢◌, ℕ, zero, suc, ◌-◌, ◌<◌, ◌≤◌, Bool, true, false, ◌||◌, ◌⊎◌, List, [], ◌∷◌, ◌++◌, length, map, Option, Some, None, refl, sym, ◌∙◌, ap, subst, inl, inr, arith}
 use Rattle.std.specs.Prelude.{slice_get, unwrap_or, nat_eq, is_some, if◌then◌else◌}
 use Rattle.std.specs.List.{AllByRecursion as Each, list_any}
+use Rattle.std.specs.Option.{option_map_or}
 use Rattle.std.proofs.lemmas.Bool.{cases_eq, eqb-true, eq-eqb, ne_eqb}
 use Rattle.std.proofs.lemmas.Option.{slice_get_within}
 use Rattle.ed_base.specs.declared.Member.{Member}
@@ -13,9 +14,10 @@ use Rattle.ed_stock.specs.Stock.{Stock, buffer, now, record_at, record_now, sour
 use Rattle.ed_stock.specs.Versions.{Rising, step_in, is_moved, at_now}
 use Rattle.ed_risen.specs.Founded.{Founded, Extends}
 use Rattle.ed_risen.specs.Growing.{Grows, AreFounded}
-use Rattle.ed_risen.specs.Rising.{IsNow, EndsIn, Inside, IsLow, IsSettled, IsRisen, HasStepped, Rises, plain}
+use Rattle.ed_risen.specs.Rising.{IsNow, EndsIn, StandInside, Inside, IsLow, IsSettled, IsRisen, HasStepped, Rises}
 use Rattle.ed_risen.proofs.FoundedLemmas.{each_weaker, each_version, founded_of, founded_in, founded_more}
 use Rattle.ed_risen.proofs.Lists.{each_both}
+use Rattle.ed_risen.proofs.Sources.{Agree, same_mode_fault}
 use Rattle.ed_risen.proofs.Texts.{same_text}
 use Rattle.ed_risen.proofs.Growth.{grown_extends, grown_founded, grown_now_other, grown_record_now, grown_record_other, grown_text_now, grown_length}
 use Rattle.ed_risen.proofs.Lengths.{step_in_old, step_in_push}
@@ -97,9 +99,23 @@ ends_in_same s t sources same (Member.Tracked source bounds mode) h =
     let v : Same s t (source, now s source) = each_version (Same s t) sources source (now s source) same h.0 in
     (h.0 ∙ ap Some (sym v.at), subst (λ xs. end_of bounds ≤ length xs) (sym v.text) h.1)
 
+-- the lengths of the sources of members that lie inside them
+agrees_same : (s t : Stock) (sources : List (ℕ × ℕ)) → Each (Same s t) sources → (m : Member) → EndsIn s sources m → Agree (λ b. length (text_now t b)) (λ b. length (text_now s b)) m
+agrees_same s t sources same (Member.Literal units) h = tt
+agrees_same s t sources same (Member.Tracked source bounds mode) h =
+    let v : Same s t (source, now s source) = each_version (Same s t) sources source (now s source) same h.0 in
+    ap length v.text
+
+pub stand_same : (s t : Stock) (sources : List (ℕ × ℕ)) (members : List Member) → Each (Same s t) sources → StandInside s sources members → StandInside t sources members
+stand_same s t sources members same h = record {
+  ends = each_weaker (EndsIn s sources) (EndsIn t sources) (ends_in_same s t sources same) members h.ends;
+  apart = h.apart;
+  cover = same_mode_fault (λ b. length (text_now t b)) (λ b. length (text_now s b)) members (each_weaker (EndsIn s sources) (Agree (λ b. length (text_now t b)) (λ b. length (text_now s b))) (agrees_same s t sources same) members h.ends) ∙ h.cover;
+}
+
 pub inside_same : (s t : Stock) (r : Record) → Each (Same s t) (sources_of r) → Inside s r → Inside t r
 inside_same s t (base text reiterated) same h = tt
-inside_same s t (projection members sources) same h = each_weaker (EndsIn s sources) (EndsIn t sources) (ends_in_same s t sources same) members h
+inside_same s t (projection members sources) same h = stand_same s t sources members same h
 inside_same s t (elision flags source version) same h = h
 
 module _ (s : Stock) (height : ℕ → ℕ) (settled : IsSettled s) (start done : List ℕ) (r : Rising) (rises : Rises s height start done r) where
@@ -113,6 +129,14 @@ module _ (s : Stock) (height : ℕ → ℕ) (settled : IsSettled s) (start done 
   unmoved_text c there still =
       ap (λ v. text_at r.stock c v) (same_now s r.stock c (rises.unmoved c still))
       ∙ same_text (record_at s) (record_at r.stock) rises.extends c (now s c) (settled.founded c (now s c) (let h : 0 < length (buffer s c).records = settled.some c there in omega arith))
+
+  -- how long each text is
+  pub new_length : (c : ℕ) → c < count s → length (text_now r.stock c) ≡ option_map_or (λ m. m.step.new_len) (step_in r.moves c) (length (text_now s c))
+  new_length c there = by (step_in r.moves c) refl
+    where
+      by : (o : Option SourceStep) → step_in r.moves c ≡ o → length (text_now r.stock c) ≡ option_map_or (λ m. m.step.new_len) o (length (text_now s c))
+      by None still = ap length (unmoved_text c there still)
+      by (Some m) stepped = sym (rises.moved c m stepped).to
 
   module _ (b : ℕ) (there : b < count s) (out : is_among b done ≡ false) (closed : Each (λ v. is_among v.0 done ≡ true) (sources_of (record_now s b)))
       (low : IsLow s height b) (shallow : height b ≤ 8) where
@@ -182,8 +206,8 @@ module _ (s : Stock) (height : ℕ → ℕ) (settled : IsSettled s) (start done 
     -- ---- it steps
 
     module _ (members : List Member) (sources : List (ℕ × ℕ)) (is : record_now s b ≡ projection members sources) (new : List Member) (m : SourceStep) (u : Stock)
-        (grows : Grows r.stock u b (projection new (at_now r.stock sources))) (same_count : count u ≡ count r.stock) (no_trails : m ≡ plain m.step)
-        (from : m.step.old_len ≡ length (text_now s b)) (to : m.step.new_len ≡ length (text_now u b)) (new_inside : Each (EndsIn r.stock (at_now r.stock sources)) new) where
+        (grows : Grows r.stock u b (projection new (at_now r.stock sources))) (same_count : count u ≡ count r.stock)
+        (from : m.step.old_len ≡ length (text_now s b)) (to : m.step.new_len ≡ length (text_now u b)) (new_inside : StandInside r.stock (at_now r.stock sources) new) where
       abbrev after : Rising
       after = record { stock = u; moves = r.moves ++ (b, m) ∷ [] }
 
@@ -249,7 +273,6 @@ module _ (s : Stock) (height : ℕ → ℕ) (settled : IsSettled s) (start done 
         longer = grown_length r.stock u b next grows ∙ ap (λ rs. suc (length rs)) (rises.unmoved b still);
         from = from;
         to = to;
-        trails = no_trails;
       }
 
       stepped_other : (c : ℕ) (n : SourceStep) → step_in r.moves c ≡ Some n → HasStepped s u c n
@@ -261,7 +284,6 @@ module _ (s : Stock) (height : ℕ → ℕ) (settled : IsSettled s) (start done 
             longer = ap length (grows.others c ne) ∙ was.longer;
             from = was.from;
             to = was.to ∙ ap length (sym (grown_text_now r.stock u b next grows rises.founded c ne (some_records c was.there)));
-            trails = was.trails;
           }
 
       moved_after : (c : ℕ) (n : SourceStep) (o : Option SourceStep) → step_in r.moves c ≡ o → step_in after.moves c ≡ Some n → HasStepped s u c n

@@ -9,13 +9,14 @@ use Rattle.ed_base.specs.Numbers.{first_some}
 use Rattle.ed_base.specs.Spans.{end_of}
 use Rattle.ed_layers.specs.Cells.{text, vector}
 use Rattle.ed_layers.specs.Graph as order
+use Rattle.ed_layers.specs.Order.{mode_fault}
 use Rattle.ed_layers.specs.Records.{Record, base, elision, members_of, projection, sources_of}
 use Rattle.ed_stock.specs.Limits.{inserted, over, placements, some_over, stock_limits, versions}
 use Rattle.ed_stock.specs.Stock.{Stock, buffer, count, graph_order, now, record_at, record_now, sources_now, text_now}
 use Rattle.ed_risen.specs.Founded.{Founded}
 use Rattle.ed_risen.specs.Counting.{turned_in}
 use Rattle.ed_risen.specs.Laws.{HasOneVersionEach, OneVector}
-use Rattle.ed_risen.specs.Rising.{EndsIn, Inside, IsNow, IsSettled}
+use Rattle.ed_risen.specs.Rising.{EndsIn, StandInside, Inside, IsNow, IsSettled}
 use Rattle.ed_risen.proofs.Counting.{inserted_turned, placements_turned, versions_turned}
 use Rattle.ed_risen.proofs.FoundedLemmas.{each_weaker}
 use Rattle.ed_risen.proofs.Growth.{missing, set_here, set_other}
@@ -59,9 +60,16 @@ module _ (t : Stock) (b : ℕ) (there : b < count t) where
   ends_then vs (Member.Literal units) e = tt
   ends_then vs (Member.Tracked source bounds mode) e = (e.0 ∙ ap Some (sym (ap (λ (f : ℕ → ℕ). f source) same_now)), subst (λ (f : ℕ → List ℕ). end_of bounds ≤ length (f source)) (sym same_text) e.1)
 
+  stand_then : (vs : List (ℕ × ℕ)) (ms : List Member) → StandInside t vs ms → StandInside v vs ms
+  stand_then vs ms h = record {
+    ends = each_weaker (EndsIn t vs) (EndsIn v vs) (ends_then vs) ms h.ends;
+    apart = h.apart;
+    cover = ap (λ (f : ℕ → List ℕ). mode_fault (λ c. length (f c)) ms) same_text ∙ h.cover;
+  }
+
   inside_then : (x : Record) → Inside t x → Inside v x
   inside_then (base units reiterated) h = tt
-  inside_then (projection ms vs) h = each_weaker (EndsIn t vs) (EndsIn v vs) (ends_then vs) ms h
+  inside_then (projection ms vs) h = stand_then vs ms h
   inside_then (elision flags source version) h = absurd h
 
   pub turned_settled : IsSettled t → IsSettled v

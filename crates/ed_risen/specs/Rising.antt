@@ -5,6 +5,7 @@ use Rattle.ed_base.specs.declared.Member.{Member}
 use Rattle.ed_base.specs.Numbers.{is_among, places}
 use Rattle.ed_base.specs.Spans.{end_of}
 use Rattle.ed_base.specs.Step.{Step}
+use Rattle.ed_layers.specs.Order.{mode_fault, overlap_fault}
 use Rattle.ed_layers.specs.Records.{Record, base, projection, elision, sources_of, version_in}
 use Rattle.ed_layers.specs.SourceStep.{SourceStep}
 use Rattle.ed_stock.specs.Stock.{Stock, buffer, now, record_at, record_now, sources_now, text_now, count}
@@ -21,10 +22,16 @@ abbrev pub EndsIn : Stock → List (ℕ × ℕ) → Member → Type 0
 EndsIn s sources (Member.Literal units) = Unit {0}
 EndsIn s sources (Member.Tracked source bounds mode) = (version_in sources source ≡ Some (now s source)) × (end_of bounds ≤ length (text_now s source))
 
--- all members of a record lie inside their sources; there are no elision buffers
+-- Members that may stand together: each lies inside its source, no two of them conflict, and those that are to cover their source do.
+pub record StandInside (s : Stock) (sources : List (ℕ × ℕ)) (members : List Member) : Type 0 where
+  pub ends : Each (EndsIn s sources) members
+  pub apart : overlap_fault members ≡ None
+  pub cover : mode_fault (λ b. length (text_now s b)) members ≡ None
+
+-- the members of a record stand inside their sources; there are no elision buffers
 abbrev pub Inside : Stock → Record → Type 0
 Inside s (base text reiterated) = Unit {0}
-Inside s (projection members sources) = Each (EndsIn s sources) members
+Inside s (projection members sources) = StandInside s sources members
 Inside s (elision flags source version) = ⊥
 
 -- A stock between groups.
@@ -55,7 +62,6 @@ pub record HasStepped (s t : Stock) (b : ℕ) (m : SourceStep) : Type 0 where
   pub longer : length (buffer t b).records ≡ suc (length (buffer s b).records)
   pub from : m.step.old_len ≡ length (text_now s b)
   pub to : m.step.new_len ≡ length (text_now t b)
-  pub trails : m ≡ plain m.step
 
 -- From the stock s on, the buffers listed are done; those of the start may have other sources than before.
 pub record Rises (s : Stock) (height : ℕ → ℕ) (start done : List ℕ) (r : Rising) : Type 0 where

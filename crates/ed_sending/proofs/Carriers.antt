@@ -8,3 +8,4 @@ pub mod NewText
 pub mod SlotPlaces
 pub mod SlotReadings
 pub mod ProjectionStep
+pub mod ArrivedUnits

@@ -12,5 +12,7 @@ pub mod AcceptedEdit
 pub mod OneWay
 pub mod OwnPieces
 pub mod TypedEdit
-pub mod UnitsSent
 pub mod SentInside
+pub mod SettledStocks
+pub mod Advances
+pub mod SentUnits

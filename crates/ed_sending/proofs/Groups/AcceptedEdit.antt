@@ -11,6 +11,7 @@ use Rattle.ed_base.specs.declared.piece.Piece.{Piece}
 use Rattle.ed_base.specs.Hooks.{HookTable}
 use Rattle.ed_layers.specs.Bounds.{members_after}
 use Rattle.ed_layers.specs.CarrierStep.{carrier_step, record_trails, all_stay}
+use Rattle.ed_layers.specs.Owning.{OwnInside, OwnInOrder}
 use Rattle.ed_layers.specs.Pieces.{Component, arrived}
 use Rattle.ed_layers.specs.Records.{Record, base, projection, elision, is_carrier, is_elision, members_of, version_in}
 use Rattle.ed_layers.specs.Sending.{sent, sending_fault}
@@ -28,7 +29,6 @@ use Rattle.ed_stock.specs.Landing.{pieces_at, carriers_down, components_at, reso
 use Rattle.ed_sending.proofs.Lists.SortedParts.{Each}
 use Rattle.ed_sending.proofs.Carriers.NewText.{StepsBy, HaveStepped, AreFitting, units_of, text_of}
 use Rattle.ed_sending.proofs.Shared.SourceSigns.{Comes, base_comes}
-use Rattle.ed_sending.proofs.Shared.OwnedUnits.{OwnInside, OwnInOrder}
 use Rattle.ed_sending.proofs.Shared.SignsByHeight.{Passes, BelowCome, passes_comes, advances}
 use Rattle.ed_sending.proofs.Groups.StepsByHeight.{Carries, have_stepped, steps_by_height}
 use Rattle.ed_sending.proofs.Carriers.ProjectionStep.{unit_of, units_old, projection_text}

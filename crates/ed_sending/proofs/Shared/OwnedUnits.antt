@@ -1,6 +1,6 @@
 -- What `Members::advance` requires: what a member owns lies inside it, and of two members in order the earlier holds what stands before.
-use Rattle.std.proofs.Common.{◌≡◌, ◌≢◌, ◌⊎◌, ℕ, zero, suc, ◌+◌, ◌-◌, ◌<◌, ◌≤◌, Bool, true, false, List, [], ◌∷◌, ◌++◌, length, map, take, drop, filter, Option, Some, None, inl, inr, refl, sym, ap, ◌∙◌, arith, subst, if◌then◌else◌}
-use Rattle.std.specs.Prelude.{slice_get, slice_range, nat_eq, nat_le, nat_lt, find, option_map, unwrap_or, Contains, IsTrue}
+use Rattle.std.proofs.Common.{◌≡◌, ◌≢◌, ℕ, zero, suc, ◌+◌, ◌-◌, ◌<◌, ◌≤◌, Bool, true, false, List, [], ◌∷◌, ◌++◌, length, map, take, drop, filter, Option, Some, None, inl, inr, refl, sym, ap, ◌∙◌, arith, subst, if◌then◌else◌}
+use Rattle.std.specs.Prelude.{slice_get, slice_range, nat_eq, nat_le, nat_lt, find, option_map, unwrap_or, Contains}
 use Rattle.std.specs.List.{enumerate_from, slice_index_or}
 use Rattle.std.proofs.lemmas.Bool.{cases_lt}
 use Rattle.std.proofs.lemmas.Bool.Decides.{nat_tests}
@@ -14,7 +14,8 @@ use Rattle.ed_base.specs.Numbers.{find_last, or_else}
 use Rattle.ed_base.specs.Spans.{end_of}
 use Rattle.ed_base.specs.Step.{pairs_from}
 use Rattle.ed_base.specs.Tracking.{positive_edge, negative_edge}
-use Rattle.ed_layers.specs.Bounds.{Placed, holds, comes_after, placed_on}
+use Rattle.ed_layers.specs.Bounds.{Placed, placed_on}
+use Rattle.ed_layers.specs.Owning.{OwnInside, OwnInOrder}
 use Rattle.ed_layers.specs.Pieces.{Component}
 use Rattle.ed_layers.specs.Sending.{sent}
 use Rattle.ed_layers.specs.SourceStep.{SourceStep, trail_at, ends_with}
@@ -30,20 +31,6 @@ use Rattle.ed_sending.proofs.Lists.Subsequences.{Sub, Cut, sub_trans, sub_map, s
 use Rattle.ed_sending.proofs.Shared.SourceSigns.{Sign, sign_of, is_told, Comes, sign_at, signs_tell, signs_past, holds_sign, ends_at, ends_any, sub_both}
 use Rattle.ed_sending.proofs.Members.SourceCuts.{start_cut, end_cut, order_cut}
 use Rattle.ed_sending.proofs.Shared.ProjectionSigns.{AreShared}
-
--- ---- the conditions, as ed_members has them
-
-abbrev pub Owns : ℕ → SourceStep → Placed → ℕ → Type 0
-Owns carrier s m q = ends_with carrier (nat_eq m.index) (trail_at s q) ≡ true
-
-abbrev pub OwnInside : ℕ → (ℕ → Option SourceStep) → List Member → Type 0
-OwnInside carrier steps members = (source q : ℕ) (s : SourceStep) (m : Placed) → steps source ≡ Some s → Contains (placed_on source (enumerate_from 0 members)) m
-    → Owns carrier s m q → (negative_edge s.step m.bounds.start ≤ q) × (q < positive_edge s.step (end_of m.bounds))
-
-abbrev pub OwnInOrder : ℕ → (ℕ → Option SourceStep) → List Member → Type 0
-OwnInOrder carrier steps members = (source p q : ℕ) (s : SourceStep) (m n : Placed) → steps source ≡ Some s
-    → Contains (placed_on source (enumerate_from 0 members)) m → Contains (placed_on source (enumerate_from 0 members)) n → IsTrue (comes_after m n)
-    → holds carrier s m p ≡ true → holds carrier s n q ≡ true → Owns carrier s m p ⊎ Owns carrier s n q → p < q
 
 -- ---- members on a source
 

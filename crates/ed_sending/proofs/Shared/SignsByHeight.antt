@@ -8,6 +8,7 @@ use Rattle.ed_base.specs.declared.piece.Piece.{Piece}
 use Rattle.ed_base.specs.Hooks.{CutRules}
 use Rattle.ed_layers.specs.Bounds.{members_after}
 use Rattle.ed_layers.specs.CarrierStep.{carrier_step, record_trails, all_stay}
+use Rattle.ed_layers.specs.Owning.{OwnInside, OwnInOrder}
 use Rattle.ed_layers.specs.Pieces.{Component, arrived}
 use Rattle.ed_layers.specs.Records.{projection}
 use Rattle.ed_layers.specs.Sending.{sent}
@@ -18,7 +19,7 @@ use Rattle.ed_sending.proofs.Carriers.NewText.{AreFitting, SparesLiterals, text_
 use Rattle.ed_sending.proofs.Texts.FilteredText.{passing}
 use Rattle.ed_sending.proofs.Shared.SourceSigns.{Comes, ends_at}
 use Rattle.ed_sending.proofs.Shared.ProjectionSigns.{AreShared, projection_comes, still_comes}
-use Rattle.ed_sending.proofs.Shared.OwnedUnits.{OwnInside, OwnInOrder, own_inside, own_in_order}
+use Rattle.ed_sending.proofs.Shared.OwnedUnits.{own_inside, own_in_order}
 
 -- what arrived at each buffer, its old text, and its step
 module _ (heights : ℕ → ℕ) (arrives : ℕ → List Piece) (texts : ℕ → List ℕ) (steps : ℕ → Option SourceStep) (IsThere : ℕ → Type 0) where
