@@ -8,7 +8,8 @@ ghost use Rattle.ed_risen.specs.Rising.{plain};
 
 use ed_base::{BufferNo, Changes, OutOfMemory, VersionNo};
 use ed_held::{Held, Move};
-use ed_members::{Owned, SourceStep};
+use ed_members::SourceStep;
+use ed_pieces::Trails;
 use ed_version::Snapshot;
 use std::alloc::Global;
 
@@ -30,7 +31,7 @@ pub fn step_by(
     Ok(SourceStep {
         source,
         changes: changes.share()?,
-        owned: Owned::of(Vec::new(alloc)),
+        trails: Trails::empty(),
     })
 }
 

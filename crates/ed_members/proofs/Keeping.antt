@@ -19,11 +19,11 @@ use Rattle.ed_layers.specs.SourceStep as layers
 use Rattle.ed_layers.specs.SourceStep.{kept_from, trail_at, ends_with}
 use Rattle.ed_members.proofs.Bools.{or_first, not_true}
 use Rattle.ed_members.specs.declared.held.Held.{Held}
-use Rattle.ed_members.specs.declared.steps.OwnedRun.{OwnedRun}
+use Rattle.ed_pieces.specs.declared.trails.TrailRun.{TrailRun}
 use Rattle.ed_members.specs.declared.steps.SourceStep.{SourceStep}
 use Rattle.ed_members.specs.Advance.{IsSound, held_span, kept_range, run_range, is_owner, with_run, with_runs, with_step, with_steps, index_from}
-use Rattle.ed_members.specs.Rising.{AreRising}
-use Rattle.ed_members.specs.Steps.{owner_at, step_seen, steps_seen}
+use Rattle.ed_pieces.specs.Trails.{AreRising, trail_in}
+use Rattle.ed_members.specs.Steps.{step_seen, steps_seen}
 use Rattle.ed_members.proofs.Indices.{index_above, index_here, index_later, seen_here, seen_later}
 use Rattle.ed_members.proofs.Pairs.{Rises, Mem, mem_behind, mem_rise, from, mem_from, from_mem, FirstFrom, LastBefore, first_from, last_before, step_rises}
 use Rattle.ed_members.proofs.Ranges.{Ranges, IsRange, range_same, range_is_least, range_joined, place_in, in_place, run_has_range}
@@ -157,16 +157,16 @@ kept_has_range s x rises =
 
 -- ---- owned runs
 
-abbrev pub owns_place : ℕ → ℕ → ℕ → OwnedRun → Bool
+abbrev pub owns_place : ℕ → ℕ → ℕ → TrailRun → Bool
 owns_place carrier i q run = is_owner carrier i run && holds_place run.span q
 
-with_one : (carrier n i : ℕ) (f : ℕ → Bool) (held : Option Held) (run : OwnedRun) → IsRange f n held → IsRange (λ q. f q || owns_place carrier i q run) n (with_run carrier n i held run)
+with_one : (carrier n i : ℕ) (f : ℕ → Bool) (held : Option Held) (run : TrailRun) → IsRange f n held → IsRange (λ q. f q || owns_place carrier i q run) n (with_run carrier n i held run)
 with_one carrier n i f held run r = elim (cases_Bool (is_owner carrier i run)) [
   | inl own ↦ rw own (range_joined f (holds_place run.span) n held (run_range n run) r (run_has_range n run))
   | inr other ↦ rw other (range_same f (λ q. f q || false) n held (λ q below. or_first (f q) false refl) r)
 ]
 
-pub with_all : (carrier n i : ℕ) (f : ℕ → Bool) (held : Option Held) (runs : List OwnedRun) → IsRange f n held → IsRange (λ q. f q || list_any (owns_place carrier i q) runs) n (with_runs carrier n i held runs)
+pub with_all : (carrier n i : ℕ) (f : ℕ → Bool) (held : Option Held) (runs : List TrailRun) → IsRange f n held → IsRange (λ q. f q || list_any (owns_place carrier i q) runs) n (with_runs carrier n i held runs)
 with_all carrier n i f held [] r = range_same f (λ q. f q || false) n held (λ q below. or_first (f q) false refl) r
 with_all carrier n i f held (run ∷ runs) r =
     range_same (λ q. (f q || owns_place carrier i q run) || list_any (owns_place carrier i q) runs) (λ q. f q || (owns_place carrier i q run || list_any (owns_place carrier i q) runs)) n
@@ -179,7 +179,7 @@ with_all carrier n i f held (run ∷ runs) r =
     or_assoc false b c = refl
 
 -- a place before all runs is owned by none
-none_before : (carrier i p q : ℕ) (runs : List OwnedRun) → AreRising p runs → q < p → list_any (owns_place carrier i q) runs ≡ false
+none_before : (carrier i p q : ℕ) (runs : List TrailRun) → AreRising p runs → q < p → list_any (owns_place carrier i q) runs ≡ false
 none_before carrier i p q [] rising before = refl
 none_before carrier i p q (run ∷ runs) rising before =
     let outside : holds_place run.span q ≡ false = not_true (holds_place run.span q) (λ t. let k : (run.span.start ≤ q) × (q < end_of run.span) = in_place run.span q t in omega (arith, k.0, rising.0)) in
@@ -190,7 +190,7 @@ none_before carrier i p q (run ∷ runs) rising before =
     and_false true = refl
     and_false false = refl
 
-pub owner_any : (carrier i p q : ℕ) (runs : List OwnedRun) → AreRising p runs → ends_with carrier (nat_eq i) (owner_at runs q) ≡ list_any (owns_place carrier i q) runs
+pub owner_any : (carrier i p q : ℕ) (runs : List TrailRun) → AreRising p runs → ends_with carrier (nat_eq i) (trail_in runs q) ≡ list_any (owns_place carrier i q) runs
 owner_any carrier i p q [] rising = refl
 owner_any carrier i p q (run ∷ runs) rising = elim (cases_Bool (holds_place run.span q)) [
   | inl t ↦ (let k : (run.span.start ≤ q) × (q < end_of run.span) = in_place run.span q t in
@@ -211,25 +211,25 @@ place_at : (n q : ℕ) → q < n → slice_get (places n) q ≡ Some q
 place_at n q below = slice_get-get_or (places n) q 0 (let l : length (places n) ≡ n = length-range_with_len 0 n in omega arith)
     ∙ ap Some (get_or-range_with_len 0 n q 0 below ∙ (let z : 0 + q ≡ q = omega arith in z))
 
-trail_is : (x : SourceStep) (q : ℕ) → q < new_len x.changes → trail_at (step_seen x) q ≡ owner_at x.owned q
-trail_is x q below = ap (λ (o : Option (List (ℕ × ℕ))). unwrap_or o []) (slice_get-map (owner_at x.owned) (places (new_len x.changes)) q ∙ ap (option_map (owner_at x.owned)) (place_at (new_len x.changes) q below))
+trail_is : (x : SourceStep) (q : ℕ) → q < new_len x.changes → trail_at (step_seen x) q ≡ trail_in x.trails q
+trail_is x q below = ap (λ (o : Option (List (ℕ × ℕ))). unwrap_or o []) (slice_get-map (trail_in x.trails) (places (new_len x.changes)) q ∙ ap (option_map (trail_in x.trails)) (place_at (new_len x.changes) q below))
 
 -- ---- all that a member holds
 
 pub held_has_range : (carrier i : ℕ) (x : SourceStep) (bounds : Span) → IsSound x
-    → IsRange (holds carrier (step_seen x) (record { index = i; bounds = bounds })) (step x.changes).new_len (with_runs carrier (step x.changes).new_len i (kept_range (step x.changes) bounds) x.owned)
+    → IsRange (holds carrier (step_seen x) (record { index = i; bounds = bounds })) (step x.changes).new_len (with_runs carrier (step x.changes).new_len i (kept_range (step x.changes) bounds) x.trails)
 held_has_range carrier i x bounds sound =
     let n : ℕ = (step x.changes).new_len in
     let size : (step x.changes).new_len ≡ new_len x.changes = normal_new_len x.changes sound.normal in
-    range_same (λ q. keeps (step x.changes) bounds q || list_any (owns_place carrier i q) x.owned) (holds carrier (step_seen x) (record { index = i; bounds = bounds }))
-    (step x.changes).new_len (with_runs carrier (step x.changes).new_len i (kept_range (step x.changes) bounds) x.owned)
-    (λ q below. ap (λ b. keeps (step x.changes) bounds q || b) (sym (owner_any carrier i 0 q x.owned sound.rising) ∙ ap (ends_with carrier (nat_eq i)) (sym (trail_is x q (omega arith)))))
-    (with_all carrier (step x.changes).new_len i (keeps (step x.changes) bounds) (kept_range (step x.changes) bounds) x.owned (kept_has_range (step x.changes) bounds (step_rises x.changes sound.normal)))
+    range_same (λ q. keeps (step x.changes) bounds q || list_any (owns_place carrier i q) x.trails) (holds carrier (step_seen x) (record { index = i; bounds = bounds }))
+    (step x.changes).new_len (with_runs carrier (step x.changes).new_len i (kept_range (step x.changes) bounds) x.trails)
+    (λ q below. ap (λ b. keeps (step x.changes) bounds q || b) (sym (owner_any carrier i 0 q x.trails sound.rising) ∙ ap (ends_with carrier (nat_eq i)) (sym (trail_is x q (omega arith)))))
+    (with_all carrier (step x.changes).new_len i (keeps (step x.changes) bounds) (kept_range (step x.changes) bounds) x.trails (kept_has_range (step x.changes) bounds (step_rises x.changes sound.normal)))
 
 pub held_is : (carrier i : ℕ) (x : SourceStep) (bounds : Span) → IsSound x
-    → option_map held_span (with_runs carrier (step x.changes).new_len i (kept_range (step x.changes) bounds) x.owned) ≡ held_range carrier (step_seen x) (record { index = i; bounds = bounds })
+    → option_map held_span (with_runs carrier (step x.changes).new_len i (kept_range (step x.changes) bounds) x.trails) ≡ held_range carrier (step_seen x) (record { index = i; bounds = bounds })
 held_is carrier i x bounds sound =
-    range_is_least (holds carrier (step_seen x) (record { index = i; bounds = bounds })) (step x.changes).new_len (with_runs carrier (step x.changes).new_len i (kept_range (step x.changes) bounds) x.owned) (held_has_range carrier i x bounds sound)
+    range_is_least (holds carrier (step_seen x) (record { index = i; bounds = bounds })) (step x.changes).new_len (with_runs carrier (step x.changes).new_len i (kept_range (step x.changes) bounds) x.trails) (held_has_range carrier i x bounds sound)
 
 -- ---- step by step
 
@@ -244,7 +244,7 @@ pub record StepOf (carrier k b i : ℕ) (held : Option Held) (ss : List SourceSt
   pub below : at < length ss
   pub here : slice_get ss at ≡ Some given
   pub seen : s ≡ step_seen given
-  pub runs : with_steps carrier k (Some (index_from k b ss)) i held ss ≡ with_runs carrier (step given.changes).new_len i held given.owned
+  pub runs : with_steps carrier k (Some (index_from k b ss)) i held ss ≡ with_runs carrier (step given.changes).new_len i held given.trails
 
 pub steps_one : (carrier k b i : ℕ) (held : Option Held) (ss : List SourceStep) (s : layers.SourceStep) → steps_seen ss b ≡ Some s → StepOf carrier k b i held ss s
 steps_one carrier k b i held [] s is = absurd (cc)
@@ -256,7 +256,7 @@ steps_one carrier k b i held (x ∷ ss) s is = elim (cases_eq x.source b) [
     here = refl;
     seen = cc (seen_here b x ss e);
     runs = ap (λ (o : Option ℕ). with_steps carrier k (Some o) i held (x ∷ ss)) (index_here k b x ss e)
-        ∙ rw (eq-eqb k k refl) (steps_past carrier (k + 1) k i (with_runs carrier (step x.changes).new_len i held x.owned) ss (omega arith));
+        ∙ rw (eq-eqb k k refl) (steps_past carrier (k + 1) k i (with_runs carrier (step x.changes).new_len i held x.trails) ss (omega arith));
   }
   | inr ne ↦ (let rest : StepOf carrier (k + 1) b i held ss s = steps_one carrier (k + 1) b i held ss s (sym (seen_later b x ss ne) ∙ is) in
       record {

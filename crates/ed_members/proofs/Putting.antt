@@ -1,6 +1,7 @@
 -- Runs that are put to what members hold, one after another.
-use Rattle.std.proofs.Common.{◌≡◌, ◌≢◌, ℕ, zero, suc, ◌<◌, Bool, true, false, ◌&&◌, List, [], ◌∷◌, length, map, get_or, set, Option, Some, None, refl, sym, ap, subst, ◌∙◌, inl, inr}
+use Rattle.std.proofs.Common.{◌≡◌, ℕ, zero, suc, ◌-◌, ◌<◌, Bool, true, false, List, [], ◌∷◌, length, map, get_or, set, Option, Some, None, refl, sym, ap, subst, ◌∙◌, inl, inr}
 use Rattle.std.specs.Prelude.{nat_eq, slice_get, option_map, option_and_then, if◌then◌else◌}
+use Rattle.std.specs.Option.{option_map_or}
 use Rattle.std.proofs.lemmas.Bool.{cases_lt, cases_eq, cases_Bool, eq-eqb, ne_eqb}
 use Rattle.std.proofs.lemmas.List.{get_or-set_same, get_or-set_other}
 use Rattle.std.proofs.lemmas.Option.{slice_get-map, slice_get_past}
@@ -8,11 +9,12 @@ use Rattle.ed_base.specs.declared.piece.Member.{Member}
 use Rattle.ed_base.specs.ChangeList.{step}
 use Rattle.ed_layers.specs.Bounds.{held_range}
 use Rattle.ed_layers.specs.SourceStep as layers
-use Rattle.ed_members.proofs.Bools.{and_parts}
+use Rattle.ed_layers.specs.SourceStep.{ends_with}
 use Rattle.ed_members.specs.declared.held.Held.{Held}
-use Rattle.ed_members.specs.declared.steps.OwnedRun.{OwnedRun}
+use Rattle.ed_pieces.proofs.Cutting.{last_get}
+use Rattle.ed_pieces.specs.declared.trails.TrailRun.{TrailRun}
 use Rattle.ed_members.specs.declared.steps.SourceStep.{SourceStep}
-use Rattle.ed_members.specs.Advance.{AreHeld, IsSound, held_span, index_from, is_step, joined, kept_of, kept_range, run_range, step_index, with_run, with_runs, with_steps}
+use Rattle.ed_members.specs.Advance.{AreHeld, IsSound, held_span, index_from, is_owner, is_step, joined, kept_of, kept_range, member_named, owner_in, run_range, step_index, with_run, with_runs, with_steps}
 use Rattle.ed_members.specs.Steps.{steps_seen}
 use Rattle.ed_members.proofs.Keeping.{held_is, StepOf, steps_one}
 
@@ -33,40 +35,53 @@ is_step_below k i indices is = elim (cases_lt i (length indices)) [
   | inr g ↦ absurd (let n : is_step k (slice_get indices i) ≡ false = ap (is_step k) (slice_get_past indices i g) in cc)
 ]
 
-module _ (me n k : ℕ) (indices : List (Option ℕ)) (held : List (Option Held)) (run : OwnedRun) where
+-- a trail ends with a member where that is the one that it names last
+pub owner_ends : (carrier i : ℕ) (trail : List (ℕ × ℕ)) → ends_with carrier (nat_eq i) trail ≡ option_map_or (nat_eq i) (owner_in carrier trail) false
+owner_ends carrier i [] = refl
+owner_ends carrier i (p ∷ []) = elim (cases_Bool (nat_eq p.0 carrier)) [ inl t ↦ rw t refl | inr f ↦ rw f refl ]
+owner_ends carrier i (p ∷ q ∷ ps) = owner_ends carrier i (q ∷ ps)
+
+-- the last pair names it, or another carrier
+pub named_last : (me : ℕ) (trail : List (ℕ × ℕ)) (pair : ℕ × ℕ) → Some pair ≡ slice_get trail (length trail - 1) → nat_eq pair.0 me ≡ true → Some pair.1 ≡ owner_in me trail
+named_last me trail pair is same = sym (ap (option_and_then (member_named me)) (last_get None trail pair (sym is)) ∙ rw same refl)
+
+pub other_last : (me : ℕ) (trail : List (ℕ × ℕ)) (pair : ℕ × ℕ) → Some pair ≡ slice_get trail (length trail - 1) → nat_eq pair.0 me ≡ false → None ≡ owner_in me trail
+other_last me trail pair is other = sym (ap (option_and_then (member_named me)) (last_get None trail pair (sym is)) ∙ rw other refl)
+
+module _ (me n k : ℕ) (indices : List (Option ℕ)) (held : List (Option Held)) (run : TrailRun) where
   abbrev pub put_at : ℕ → Option Held
   put_at i = if is_step k (slice_get indices i) then with_run me n i (get_or held i None) run else get_or held i None
 
-  same_there : (i : ℕ) (b : Bool) → i ≢ run.member → get_or held i None ≡ (if b then with_run me n i (get_or held i None) run else get_or held i None)
-  same_there i false ne = refl
-  same_there i true ne = elim (cases_Bool (nat_eq run.carrier me)) [
-    | inl t ↦ rw (t, ne_eqb i run.member ne) refl
-    | inr f ↦ rw f refl
-  ]
+  owner_is : (i : ℕ) (o : Option ℕ) → owner_in me run.trail ≡ o → is_owner me i run ≡ option_map_or (nat_eq i) o false
+  owner_is i o is = owner_ends me i run.trail ∙ ap (λ (o : Option ℕ). option_map_or (nat_eq i) o false) is
 
-  pub run_taken : (v : Option Held) → (nat_eq run.carrier me && is_step k (slice_get indices run.member)) ≡ true → run.member < length held → v ≡ joined (get_or held run.member None) (run_range n run) → (i : ℕ) → get_or (set held run.member v) i None ≡ put_at i
-  run_taken v taken below is i = elim (cases_eq i run.member) [
-    | inl e ↦ (let both : (nat_eq run.carrier me ≡ true) × (is_step k (slice_get indices run.member) ≡ true) = and_parts (nat_eq run.carrier me) (is_step k (slice_get indices run.member)) taken in
-        subst (λ (j : ℕ). get_or (set held run.member v) j None ≡ put_at j) (sym e)
-        (get_or-set_same held run.member v None below ∙ (is ∙ rw (both.1, both.0, eq-eqb run.member run.member refl) refl)))
-    | inr ne ↦ get_or-set_other held run.member i v None ne ∙ same_there i (is_step k (slice_get indices i)) ne
-  ]
-
-  pub run_passed : (nat_eq run.carrier me && is_step k (slice_get indices run.member)) ≡ false → (i : ℕ) → get_or held i None ≡ put_at i
-  run_passed passed i = elim (cases_eq i run.member) [
-    | inl e ↦ subst (λ (j : ℕ). get_or held j None ≡ put_at j) (sym e) (here (is_step k (slice_get indices run.member)) (nat_eq run.carrier me) refl passed)
-    | inr ne ↦ same_there i (is_step k (slice_get indices i)) ne
-  ]
+  passed_by : (i : ℕ) → is_owner me i run ≡ false → get_or held i None ≡ put_at i
+  passed_by i other = same (is_step k (slice_get indices i))
     where
-      here : (b a : Bool) → nat_eq run.carrier me ≡ a → (a && b) ≡ false → get_or held run.member None ≡ (if b then with_run me n run.member (get_or held run.member None) run else get_or held run.member None)
-      here false a e f = refl
-      here true true e f = absurd (cc)
-      here true false e f = rw e refl
+      same : (b : Bool) → get_or held i None ≡ (if b then with_run me n i (get_or held i None) run else get_or held i None)
+      same false = refl
+      same true = rw other refl
+
+  pub run_passed : owner_in me run.trail ≡ None → (i : ℕ) → get_or held i None ≡ put_at i
+  run_passed none i = passed_by i (owner_is i None none)
+
+  pub run_stays : (m : ℕ) → owner_in me run.trail ≡ Some m → is_step k (slice_get indices m) ≡ false → (i : ℕ) → get_or held i None ≡ put_at i
+  run_stays m owner stays i = elim (cases_eq i m) [
+    | inl e ↦ (let f : is_step k (slice_get indices i) ≡ false = ap (λ (j : ℕ). is_step k (slice_get indices j)) e ∙ stays in rw f refl)
+    | inr ne ↦ passed_by i (owner_is i (Some m) owner ∙ ne_eqb i m ne)
+  ]
+
+  pub run_taken : (m : ℕ) (v : Option Held) → owner_in me run.trail ≡ Some m → is_step k (slice_get indices m) ≡ true → m < length held → v ≡ joined (get_or held m None) (run_range n run) → (i : ℕ) → get_or (set held m v) i None ≡ put_at i
+  run_taken m v owner taken below is i = elim (cases_eq i m) [
+    | inl e ↦ subst (λ (j : ℕ). get_or (set held m v) j None ≡ put_at j) (sym e)
+        (get_or-set_same held m v None below ∙ (is ∙ (let own : is_owner me m run ≡ true = owner_is m (Some m) owner ∙ eq-eqb m m refl in rw (taken, own) refl)))
+    | inr ne ↦ get_or-set_other held m i v None ne ∙ passed_by i (owner_is i (Some m) owner ∙ ne_eqb i m ne)
+  ]
 
 -- one run more of a step
-pub runs_more : (b : Bool) (me n i : ℕ) (h h' f : Option Held) (run : OwnedRun) (runs rest all : List OwnedRun) → runs ≡ run ∷ rest → h' ≡ (if b then with_run me n i h run else h)
+pub runs_more : (b : Bool) (me n i : ℕ) (h h' f : Option Held) (run : TrailRun) (runs rest all : List TrailRun) → runs ≡ run ∷ rest → h' ≡ (if b then with_run me n i h run else h)
     → (if b then with_runs me n i h runs else h) ≡ (if b then with_runs me n i f all else f) → (if b then with_runs me n i h' rest else h') ≡ (if b then with_runs me n i f all else f)
-runs_more true me n i h h' f run runs rest all e is inv = ap (λ (x : Option Held). with_runs me n i x rest) is ∙ (ap (λ (xs : List OwnedRun). with_runs me n i h xs) (sym e) ∙ inv)
+runs_more true me n i h h' f run runs rest all e is inv = ap (λ (x : Option Held). with_runs me n i x rest) is ∙ (ap (λ (xs : List TrailRun). with_runs me n i h xs) (sym e) ∙ inv)
 runs_more false me n i h h' f run runs rest all e is inv = is ∙ inv
 
 -- all steps
@@ -85,11 +100,11 @@ held_all me members steps indices held first size all sound = record {
       all i ∙ (ap (λ (o : Option (Option ℕ)). with_steps me 0 o i (get_or (map (kept_of (steps_seen steps)) members) i None) steps) at
       ∙ ap (λ (h : Option Held). with_steps me 0 (Some (index_from 0 source steps)) i h steps) kept) in
       let span : kept_range s.step bounds ≡ kept_range (step st.given.changes) bounds = ap (λ (s : layers.SourceStep). kept_range s.step bounds) st.seen in
-      ap (option_map held_span) (here ∙ (st.runs ∙ ap (λ (h : Option Held). with_runs me (step st.given.changes).new_len i h st.given.owned) span))
+      ap (option_map held_span) (here ∙ (st.runs ∙ ap (λ (h : Option Held). with_runs me (step st.given.changes).new_len i h st.given.trails) span))
       ∙ (held_is me i st.given bounds (sound st.at st.given st.below st.here) ∙ ap (λ (s : layers.SourceStep). held_range me s (record { index = i; bounds = bounds })) (sym st.seen));
 }
 
 -- no run is left
-pub at_end : (b : Bool) (me n n' i : ℕ) (h f : Option Held) (runs all : List OwnedRun) → runs ≡ [] → n ≡ n' → (if b then with_runs me n i h runs else h) ≡ (if b then with_runs me n i f all else f) → h ≡ (if b then with_runs me n' i f all else f)
-at_end true me n n' i h f runs all e size inv = ap (λ (xs : List OwnedRun). with_runs me n i h xs) (sym e) ∙ (inv ∙ ap (λ (m : ℕ). with_runs me m i f all) size)
+pub at_end : (b : Bool) (me n n' i : ℕ) (h f : Option Held) (runs all : List TrailRun) → runs ≡ [] → n ≡ n' → (if b then with_runs me n i h runs else h) ≡ (if b then with_runs me n i f all else f) → h ≡ (if b then with_runs me n' i f all else f)
+at_end true me n n' i h f runs all e size inv = ap (λ (xs : List TrailRun). with_runs me n i h xs) (sym e) ∙ (inv ∙ ap (λ (m : ℕ). with_runs me m i f all) size)
 at_end false me n n' i h f runs all e size inv = inv

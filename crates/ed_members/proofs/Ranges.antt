@@ -10,7 +10,7 @@ use Rattle.ed_base.specs.Runs.{least_range}
 use Rattle.ed_base.specs.Spans.{end_of, holds_place}
 use Rattle.ed_members.proofs.Bools.{or_left, or_right, or_cases, or_none, or_first, and_parts, not_true}
 use Rattle.ed_members.specs.declared.held.Held.{Held}
-use Rattle.ed_members.specs.declared.steps.OwnedRun.{OwnedRun}
+use Rattle.ed_pieces.specs.declared.trails.TrailRun.{TrailRun}
 use Rattle.ed_members.specs.Advance.{held_span, joined, run_range}
 
 -- the places below n that pass the test lie from start to end, and no range less wide has them
@@ -155,7 +155,7 @@ in_place x q h =
     let both : (nat_le x.start q ≡ true) × (nat_lt q (end_of x) ≡ true) = and_parts (nat_le x.start q) (nat_lt q (end_of x)) h in
     (leb-true x.start q both.0, ltb-true q (end_of x) both.1)
 
-pub run_has_range : (n : ℕ) (run : OwnedRun) → IsRange (holds_place run.span) n (run_range n run)
+pub run_has_range : (n : ℕ) (run : TrailRun) → IsRange (holds_place run.span) n (run_range n run)
 run_has_range n run = elim (cases_lt run.span.start (min (end_of run.span) n)) [
   | inl some ↦ rw (lt-ltb run.span.start (min (end_of run.span) n) some) (record {
     some = some;

@@ -1,5 +1,5 @@
 -- How members go along: what each holds, and what the next one begins with.
-use Rattle.std.specs.Prelude.{◌≡◌, ℕ, ◌+◌, Bool, false, ◌&&◌, List, [], ◌∷◌, length, nat_eq, nat_lt, min, max, option_map, option_and_then, unwrap_or, slice_get, slice_index_or, Option, Some, None, if◌then◌else◌}
+use Rattle.std.specs.Prelude.{◌≡◌, ℕ, ◌+◌, Bool, false, List, [], ◌∷◌, length, nat_eq, nat_lt, min, max, option_map, option_and_then, unwrap_or, slice_get, slice_index_or, Option, Some, None, if◌then◌else◌}
 use Rattle.std.specs.Option.{option_map_or}
 use Rattle.ed_base.specs.declared.edit.Span.{Span}
 use Rattle.ed_base.specs.declared.mode.SpanMode.{SpanMode}
@@ -9,12 +9,13 @@ use Rattle.ed_base.specs.ChangeList.{step, AreNormalFrom}
 use Rattle.ed_base.specs.Step.{Step}
 use Rattle.ed_base.specs.Tracking.{positive_edge, negative_edge}
 use Rattle.ed_layers.specs.Order.{is_inclusive}
-use Rattle.ed_layers.specs.SourceStep.{SourceStep}
+use Rattle.ed_layers.specs.Pieces.{last_pair}
+use Rattle.ed_layers.specs.SourceStep.{SourceStep, ends_with}
 use Rattle.ed_layers.specs.Bounds.{held_range}
 use Rattle.ed_members.specs.declared.held.Held.{Held}
-use Rattle.ed_members.specs.declared.steps.OwnedRun.{OwnedRun}
 use Rattle.ed_members.specs.declared.steps.SourceStep as given
-use Rattle.ed_members.specs.Rising.{AreRising}
+use Rattle.ed_pieces.specs.Trails.{AreRising}
+use Rattle.ed_pieces.specs.declared.trails.TrailRun.{TrailRun}
 
 -- the index of the first step of a source, where the first of these has index k
 abbrev pub index_from : ℕ → ℕ → List given.SourceStep → Option ℕ
@@ -41,25 +42,32 @@ joined (Some a) None = Some a
 joined (Some a) (Some b) = Some (record { start = min a.start b.start; end = max a.end b.end })
 
 -- the places of a run in a text of n units
-abbrev pub run_range : ℕ → OwnedRun → Option Held
+abbrev pub run_range : ℕ → TrailRun → Option Held
 run_range n run = range_between run.span.start (min (end_of run.span) n)
 
 -- whether the run is owned by the member of the carrier
-abbrev pub is_owner : ℕ → ℕ → OwnedRun → Bool
-is_owner carrier i run = nat_eq run.carrier carrier && nat_eq i run.member
+abbrev pub is_owner : ℕ → ℕ → TrailRun → Bool
+is_owner carrier i run = ends_with carrier (nat_eq i) run.trail
+
+-- the member of the carrier that a pair names, and the one through which units of a trail came last
+abbrev pub member_named : ℕ → ℕ × ℕ → Option ℕ
+member_named carrier pair = if nat_eq pair.0 carrier then Some pair.1 else None
+
+abbrev pub owner_in : ℕ → List (ℕ × ℕ) → Option ℕ
+owner_in carrier trail = option_and_then (member_named carrier) (last_pair trail)
 
 -- a range with one run more, where the member owns that
-abbrev pub with_run : ℕ → ℕ → ℕ → Option Held → OwnedRun → Option Held
+abbrev pub with_run : ℕ → ℕ → ℕ → Option Held → TrailRun → Option Held
 with_run carrier n i held run = if is_owner carrier i run then joined held (run_range n run) else held
 
 -- a range with all of these runs that the member of the carrier owns
-abbrev pub with_runs : ℕ → ℕ → ℕ → Option Held → List OwnedRun → Option Held
+abbrev pub with_runs : ℕ → ℕ → ℕ → Option Held → List TrailRun → Option Held
 with_runs carrier n i held [] = held
 with_runs carrier n i held (run ∷ runs) = with_runs carrier n i (with_run carrier n i held run) runs
 
--- a step whose owned runs rise and whose changes are in normal form
+-- a step whose runs rise and whose changes are in normal form
 pub record IsSound (s : given.SourceStep) : Type 0 where
-  pub rising : AreRising 0 s.owned
+  pub rising : AreRising 0 s.trails
   pub normal : AreNormalFrom 0 s.changes.old_len s.changes.changes
 
 -- whether a member's step has this index
@@ -69,7 +77,7 @@ is_step k _ = false
 
 -- a member's range with the runs of one step, where that is the step of its source
 abbrev pub with_step : ℕ → ℕ → Option (Option ℕ) → ℕ → Option Held → given.SourceStep → Option Held
-with_step carrier k at i held s = if is_step k at then with_runs carrier (step s.changes).new_len i held s.owned else held
+with_step carrier k at i held s = if is_step k at then with_runs carrier (step s.changes).new_len i held s.trails else held
 
 -- and with those of steps from index k on
 abbrev pub with_steps : ℕ → ℕ → Option (Option ℕ) → ℕ → Option Held → List given.SourceStep → Option Held

@@ -1,7 +1,6 @@
 pub mod Reaches
 pub mod Faults
 pub mod Starts
-pub mod Rising
 pub mod Steps
 pub mod Moving
 pub mod Sorted

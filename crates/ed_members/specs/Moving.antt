@@ -1,12 +1,9 @@
 -- When members can go along with steps of their sources.
-use Rattle.std.specs.Prelude.{◌≡◌, ◌⊎◌, ℕ, ◌<◌, ◌≤◌, true, List, nat_eq, Option, MatchOption, IsTrue, Some}
-use Rattle.std.specs.List.{enumerate_from}
+use Rattle.std.specs.Prelude.{ℕ, ◌≤◌, Option, MatchOption}
 use Rattle.ed_base.specs.declared.piece.Member.{Member}
 use Rattle.ed_base.specs.Spans.{end_of}
-use Rattle.ed_base.specs.Tracking.{positive_edge, negative_edge}
-use Rattle.ed_layers.specs.SourceStep.{SourceStep, trail_at, ends_with}
-use Rattle.ed_layers.specs.Bounds.{Placed, comes_after, holds, placed_on}
-use Rattle.std.specs.Prelude.{Contains}
+use Rattle.ed_layers.specs.SourceStep.{SourceStep}
+pub use Rattle.ed_layers.specs.Owning.{Owns, OwnInside, OwnInOrder}
 
 -- The bounds of a member end within the old text of its source, where that stepped; and within the new one.
 abbrev pub EndsInOld : (ℕ → Option SourceStep) → Member → Type 0
@@ -16,18 +13,3 @@ EndsInOld steps (Member.Tracked source bounds mode) = MatchOption (steps source)
 abbrev pub EndsInNew : (ℕ → Option SourceStep) → Member → Type 0
 EndsInNew steps (Member.Literal units) = Unit {0}
 EndsInNew steps (Member.Tracked source bounds mode) = MatchOption (steps source) (Unit {0}) (λ s. end_of bounds ≤ s.step.new_len)
-
--- whether the new place is owned by the member of the carrier
-abbrev pub Owns : ℕ → SourceStep → Placed → ℕ → Type 0
-Owns carrier s m q = ends_with carrier (nat_eq m.index) (trail_at s q) ≡ true
-
--- What a member of the carrier owns lies between the places to which its outer edges go.
-abbrev pub OwnInside : ℕ → (ℕ → Option SourceStep) → List Member → Type 0
-OwnInside carrier steps members = (source q : ℕ) (s : SourceStep) (m : Placed) → steps source ≡ Some s → Contains (placed_on source (enumerate_from 0 members)) m
-    → Owns carrier s m q → (negative_edge s.step m.bounds.start ≤ q) × (q < positive_edge s.step (end_of m.bounds))
-
--- Of two members on one source, all that the earlier holds lies before all that the later holds. What no one owns does so anyway.
-abbrev pub OwnInOrder : ℕ → (ℕ → Option SourceStep) → List Member → Type 0
-OwnInOrder carrier steps members = (source p q : ℕ) (s : SourceStep) (m n : Placed) → steps source ≡ Some s
-    → Contains (placed_on source (enumerate_from 0 members)) m → Contains (placed_on source (enumerate_from 0 members)) n → IsTrue (comes_after m n)
-    → holds carrier s m p ≡ true → holds carrier s n q ≡ true → Owns carrier s m p ⊎ Owns carrier s n q → p < q

@@ -1,18 +1,19 @@
 //! What members hold after the steps of their sources.
-ghost use Rattle.std.specs.Prelude.{◌≡◌, ℕ, ◌≤◌, ◌<◌, None, Some, length, map, slice_get, slice_index_or, if◌then◌else◌, nat_eq, ◌&&◌, MatchOption, IfOk, OnOk};
+ghost use Rattle.std.specs.Prelude.{◌≡◌, ℕ, ◌≤◌, ◌<◌, None, Some, length, map, slice_get, slice_index_or, if◌then◌else◌, nat_eq, MatchOption, IfOk, OnOk};
 ghost use Rattle.std.specs.BTreeMap.{get};
 ghost use Rattle.std.specs.List.{All};
 ghost use Rattle.std.specs.Ordering.{nat_cmp};
 ghost use Rattle.ed_base.specs.ChangeList.{IsNormal, step};
 ghost use Rattle.ed_base.specs.Numbers.{or_else};
 ghost use Rattle.ed_base.specs.Spans.{end_of};
-ghost use Rattle.ed_members.specs.Advance.{AreHeld, IsSound, index_from, joined, kept_of, kept_range, range_between, run_range, step_index, with_run, with_step, is_step};
+ghost use Rattle.ed_members.specs.Advance.{AreHeld, IsSound, index_from, is_step, joined, kept_of, kept_range, owner_in, range_between, run_range, step_index, with_run, with_step};
 ghost use Rattle.ed_members.specs.declared.steps.SourceStep.{SourceStep};
 ghost use Rattle.ed_members.specs.Moving.{EndsInOld};
 ghost use Rattle.ed_members.specs.Steps.{steps_seen, step_seen};
 
-use crate::steps::{OwnedRun, SourceStep};
+use crate::steps::SourceStep;
 use ed_base::{BufferNo, Changes, Member, OutOfMemory, Span};
+use ed_pieces::TrailRun;
 use ed_track::edges;
 use std::alloc::Global;
 use std::collections::BTreeMap;
@@ -146,7 +147,7 @@ fn kept(
 }
 
 /// The least range that has the range and the places of the run in a text of `len` units.
-fn widened(held: Option<Held>, run: &OwnedRun, len: u32) -> Option<Held>
+fn widened(held: Option<Held>, run: &TrailRun, len: u32) -> Option<Held>
     ensures { result ≡ joined held (run_range len run.now) }
 {
     let run_end = u64::from(run.span.start) + u64::from(run.span.len);
@@ -162,12 +163,20 @@ fn widened(held: Option<Held>, run: &OwnedRun, len: u32) -> Option<Held>
     }
 }
 
-/// Whether the run's member is one of the carrier `me` whose source took the step with this index.
-fn is_taken(indices: &[Option<usize>], me: BufferNo, index: usize, run: &OwnedRun) -> bool
-    ensures { result ≡ (nat_eq run.now.carrier me && is_step index (slice_get indices.now run.now.member)) }
+/// The member of the carrier `me` through which units of this trail came last, if it was one of `me`.
+pub fn owner_in(me: BufferNo, trail: &[(BufferNo, u32)]) -> Option<u32>
+    ensures { result ≡ owner_in me trail.now }
 {
-    match indices.get(run.member as usize) {
-        Some(Some(at)) => run.carrier == me && *at == index,
+    let (carrier, member) = trail.last()?;
+    if *carrier == me { Some(*member) } else { None }
+}
+
+/// Whether the member's source took the step with this index.
+fn is_step(indices: &[Option<usize>], index: usize, member: usize) -> bool
+    ensures { result ≡ is_step index (slice_get indices.now member) }
+{
+    match indices.get(member) {
+        Some(Some(at)) => *at == index,
         _ => false,
     }
 }
@@ -180,14 +189,17 @@ fn put_run(
     me: BufferNo,
     index: usize,
     len: u32,
-    run: &OwnedRun,
+    run: &TrailRun,
 )
     requires { length held.old.items ≡ length indices.now }
     ensures long { length held.new.items ≡ length held.old.items }
     ensures each { (i : ℕ) → slice_index_or held.new.items i None ≡ (if is_step index (slice_get indices.now i) then with_run me len i (slice_index_or held.old.items i None) run.now else slice_index_or held.old.items i None) }
 {
-    let member = run.member as usize;
-    if is_taken(indices, me, index, run) {
+    let Some(owner) = owner_in(me, run.trail.as_slice()) else {
+        return;
+    };
+    let member = owner as usize;
+    if is_step(indices, index, member) {
         held[member] = widened(held[member], run, len);
     }
 }
@@ -215,7 +227,7 @@ fn put_runs(
     ensures sound { IsSound step.now }
 {
     let len = len_after(&step.changes);
-    for run in step.owned.as_slice() {
+    for run in step.trails.as_slice() {
         put_run(held, indices, me, index, len, run);
     }
 }

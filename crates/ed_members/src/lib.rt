@@ -18,4 +18,4 @@ mod sweeps;
 pub use fault::MemberFault;
 pub use members::Members;
 pub use starts::are_short;
-pub use steps::{Owned, OwnedRun, SourceStep};
+pub use steps::SourceStep;
