@@ -8,7 +8,7 @@ use Rattle.std.proofs.lemmas.List.{length-map, map-append}
 use Rattle.ed_base.specs.declared.Member.{Member}
 use Rattle.ed_base.specs.Numbers.{is_among, places}
 use Rattle.ed_base.specs.Step.{Step}
-use Rattle.ed_base.specs.ChangeList.{change_list, step}
+use Rattle.ed_base.specs.ChangeList.{change_list, new_len, step}
 use Rattle.ed_layers.specs.Records.{Record, base, projection, sources_of, version_in, members_len}
 use Rattle.ed_layers.specs.Cells.{text}
 use Rattle.ed_layers.specs.Bounds.{members_after}
@@ -25,12 +25,15 @@ use Rattle.ed_held.specs.declared.held.Held.{Held}
 use Rattle.ed_held.specs.declared.moves.Move.{Move}
 use Rattle.ed_held.specs.declared.moves.Planned.{Planned}
 use Rattle.ed_held.specs.Advancing.{IsNextOf, sources_held}
-use Rattle.ed_climb.specs.Climbing.{CanRise, is_over, source_snapshots}
+use Rattle.ed_layers.specs.Order.{mode_fault, overlap_fault}
+use Rattle.ed_pieces.specs.Trails.{trails_in}
+use Rattle.ed_pieces.specs.declared.trails.TrailRun.{TrailRun}
+use Rattle.ed_climb.specs.Climbing.{CanRise, HandsUp, is_over, source_snapshots}
 use Rattle.ed_risen.specs.Founded.{Founded, Extends}
 use Rattle.ed_risen.specs.Growing.{Grows}
-use Rattle.ed_held.specs.Moves.{AreApart, IsPlannedAt, CanMake, changes_of, move_of, move_seen, rising_of, snapshot_after, with_move}
-use Rattle.ed_risen.specs.Rising.{EndsIn, Inside, IsLow, IsSettled, Rises, plain}
-use Rattle.ed_climb.specs.Route.{AreTrue, Climbs, IsNewest, IsReached, IsRoute, Route, newest}
+use Rattle.ed_held.specs.Moves.{AreApart, IsPlannedAt, CanMake, move_of, move_seen, rising_of, snapshot_after, step_of, with_move}
+use Rattle.ed_risen.specs.Rising.{EndsIn, Inside, IsLow, IsSettled, Rises, StandInside}
+use Rattle.ed_climb.specs.Route.{AreTrue, Climbs, IsNewest, IsReached, IsRoute, KeepTheirs, Route, newest}
 use Rattle.ed_held.specs.Seen.{base_record, known, seen, stock, stock_of, Known}
 use Rattle.ed_version.specs.declared.Version.{Version}
 use Rattle.ed_version.specs.declared.Snapshot.{Snapshot}
@@ -38,11 +41,12 @@ use Rattle.ed_climb.proofs.Advanced.{map_set, same_known}
 use Rattle.ed_risen.proofs.Settled.{each_at}
 use Rattle.ed_risen.proofs.FoundedLemmas.{each_version, each_weaker, founded_in, founded_more}
 use Rattle.ed_risen.proofs.Growth.{grown_extends, grown_last, grown_now, grown_now_other, grown_record_other, grown_text_now, same_growth, set_grows, set_here, set_other, version_grows}
-use Rattle.ed_risen.proofs.Lengths.{ArePlain, length_slots, plain_trails, step_in_old, step_in_push}
+use Rattle.ed_risen.proofs.Covering.{risen_cover}
+use Rattle.ed_risen.proofs.Lengths.{length_slots, step_in_old, step_in_push}
 use Rattle.ed_risen.proofs.Texts.{named_text, projection_text, same_text}
 use Rattle.ed_climb.proofs.Moved.{any_moved, step_of_move}
 use Rattle.ed_risen.proofs.RisingLemmas.{at_now_each, get_last, levels, other_than, same_record, some_records, stays, steps, unmoved_text}
-use Rattle.ed_climb.proofs.Snapshots.{found_buffer, found_each, have_sources, held_buffer, held_record, members_inside, newest_same, owns_in_order, owns_inside, snaps, snaps_text, snaps_versions, snapshot_is, within_old}
+use Rattle.ed_climb.proofs.Snapshots.{found_buffer, found_each, have_sources, held_buffer, held_record, members_inside, newest_same, snaps, snaps_text, snaps_versions, snapshot_is, within_old}
 use Rattle.ed_risen.proofs.Lists.{get_map, each_of, among_itself, among_last, among_more, among_push, any_same, each_push, fold_push, got, push_among}
 use Rattle.ed_risen.proofs.Turns.{rests}
 
@@ -236,7 +240,7 @@ module _ (w : Route) (order : List ℕ) (route : IsRoute w order) (passed done :
 
       moves_by : (o : Option Move) (d : Bool) → move_of ms b ≡ o → is_among b done ≡ d → (is_none o && is_over ms h) ≡ is_moved r b
       moves_by (Some m) true is in_ = sym (quiet_here in_)
-      moves_by (Some m) false is out = absurd (let e : Some (plain (step (changes_of m.planned))) ≡ None = ap (option_map (λ x. plain (step (changes_of x.planned)))) (sym is) ∙ sym (step_of_move ms b) ∙ climbs.rises.later b out in cc)
+      moves_by (Some m) false is out = absurd (let e : Some (step_of m) ≡ None = ap (option_map (λ x. step_of x)) (sym is) ∙ sym (step_of_move ms b) ∙ climbs.rises.later b out in cc)
       moves_by None true is in_ = sym (sources_moved (not_begun is))
       moves_by None false is out = sym (sources_moved (climbs.rises.started b out))
 
@@ -261,18 +265,24 @@ module _ (w : Route) (order : List ℕ) (route : IsRoute w order) (passed done :
       pub still_text : (c : ℕ) → c < count s → step_in r.moves c ≡ None → text_now t c ≡ text_now s c
       still_text c there still = unmoved_text s w.height route.settled w.start done r climbs.rises c there still
 
+      theirs_here : is_moved r b ≡ true → (p : Projection) (turns : ℕ) → slice_get hs b ≡ Some (Held.Projection p turns) → record_now s b ≡ record_of (shown_now p) → KeepTheirs p.buffer (step_in r.moves) (shown_now p).members
+      theirs_here moved p turns here was =
+          subst (λ c. KeepTheirs c (step_in r.moves) (shown_now p).members) (sym (true_hs.numbered b (known (Held.Projection p turns)) (get_map known hs b (Held.Projection p turns) here)))
+          (subst (λ (x : Rising). KeepTheirs b (step_in x.moves) (shown_now p).members) climbs.folded (route.theirs passed rest b (shown_now p).members (shown_now p).sources split was (ap (λ x. is_moved x b) climbs.folded ∙ moved)))
+
       can_by : (x : Held) → h ≡ x → is_moved r b ≡ true → CanRise hs ms (step_in r.moves) x
       can_by (Held.Base x) is moved = tt
       can_by (Held.Projection p turns) is moved =
           let there : Each (λ v. v.0 < count s) (shown_now p).sources = subst (λ x. Each (λ v. v.0 < count s) (sources_held x)) is (there_sources moved) in
           let rec : record_now s b ≡ record_of (shown_now p) = record_is p turns (buffer_is ∙ ap seen is) (held ∙ ap Some is) in
-          let inside : Each (EndsIn s (shown_now p).sources) (shown_now p).members = inside_by (record_of (shown_now p)) rec in
+          let inside : Each (EndsIn s (shown_now p).sources) (shown_now p).members = (inside_by (record_of (shown_now p)) rec).ends in
+          let theirs : KeepTheirs p.buffer (step_in r.moves) (shown_now p).members = theirs_here moved p turns (held ∙ ap Some is) rec in
           let shown : source_snapshots hs ms (Held.Projection p turns) ≡ snaps t (shown_now p).sources = snapshots_newest (shown_now p).sources there in (
             (λ k d below. there_held (slice_index_or (shown_now p).sources k d).0 (each_at (λ v. v.0 < count s) (shown_now p).sources k d there below)),
             record {
               within = within_old s t (step_in r.moves) climbs.rises.moved still_text (shown_now p).sources there (shown_now p).members inside;
-              inside = owns_inside s t (step_in r.moves) climbs.rises.moved still_text (shown_now p).sources there p.buffer (shown_now p).members;
-              order = owns_in_order s t (step_in r.moves) climbs.rises.moved still_text (shown_now p).sources there p.buffer (shown_now p).members;
+              inside = theirs.inside;
+              order = theirs.order;
               there = subst (λ ss. All (HasSource (step_in r.moves) ss) (shown_now p).members) (sym shown) (have_sources s t (step_in r.moves) climbs.rises.moved still_text (shown_now p).sources there (shown_now p).members inside);
             },
           )
@@ -284,9 +294,9 @@ module _ (w : Route) (order : List ℕ) (route : IsRoute w order) (passed done :
 
       module _ (moved : is_moved r b ≡ true) (p q : Projection) (turns : ℕ) (is : h ≡ Held.Projection p turns) (n : Next)
           (next : IsNextOf (step_in r.moves) (source_snapshots hs ms (Held.Projection p turns)) p n) (planned : projections.IsPlanned q n) (same : IsUnchanged p q)
-          (ends : All (EndsInNew (step_in r.moves)) n.members) (fits : members_len n.members ≤ 2 ^ 22) where
+          (ends : All (EndsInNew (step_in r.moves)) n.members) (fits : members_len n.members ≤ 2 ^ 22) (apart : overlap_fault n.members ≡ None) (ways : List TrailRun) (handed : HandsUp b (step_in r.moves) n.members ways) where
         abbrev move : Move
-        move = record { buffer = b; planned = Planned.Projection n }
+        move = record { buffer = b; planned = Planned.Projection n; trails = ways }
 
         abbrev old_members : List Member
         old_members = (shown_now p).members
@@ -322,10 +332,15 @@ module _ (w : Route) (order : List ℕ) (route : IsRoute w order) (passed done :
         members_are : n.members ≡ members_after b (step_in r.moves) old_members
         members_are = next.members ∙ ap (λ c. members_after c (step_in r.moves) old_members) number
 
-        inside_then : Each (EndsIn t (at_now t sources)) n.members
-        inside_then = subst (Each (EndsIn t (at_now t sources))) (sym members_are)
-            (members_inside s t (step_in r.moves) climbs.rises.moved still_text sources there b old_members 0 old_members (inside_by (projection old_members sources) record_was)
-            (subst (Each (EndsInNew (step_in r.moves))) members_are (each_of (EndsInNew (step_in r.moves)) n.members ends)))
+        inside_then : StandInside t (at_now t sources) n.members
+        inside_then = record {
+          ends = subst (Each (EndsIn t (at_now t sources))) (sym members_are)
+              (members_inside s t (step_in r.moves) climbs.rises.moved still_text sources there b old_members 0 old_members (inside_by (projection old_members sources) record_was).ends
+              (subst (Each (EndsInNew (step_in r.moves))) members_are (each_of (EndsInNew (step_in r.moves)) n.members ends)));
+          apart = apart;
+          cover = ap (mode_fault (λ c. length (text_now t c))) members_are
+              ∙ risen_cover s w.height route.settled w.start done r climbs.rises b sources old_members there (inside_by (projection old_members sources) record_was);
+        }
 
         abbrev u : Stock
         u = with_move t move
@@ -397,12 +412,8 @@ module _ (w : Route) (order : List ℕ) (route : IsRoute w order) (passed done :
             (same_growth t with_text u b (projection n.members n.sources) (set_grows t b (projection n.members n.sources) (record (buffer t b) { records = (buffer t b).records ++ projection n.members n.sources ∷ [] }) there_now refl)
             (version_grows t b (projection n.members n.sources) n.changes there_now))
 
-        all_plain : ArePlain (step_in r.moves)
-        all_plain = λ c x found. (climbs.rises.moved c x found).trails
-
-        trails_are : record_trails b false (step_in r.moves) (projection n.members n.sources) ≡ map (λ x. []) (places (step n.changes).new_len)
-        unfolding carrier_step
-        trails_are = plain_trails b (step_in r.moves) all_plain false (projection n.members n.sources) (step n.changes).new_len (sym (ap (λ x. x.new_len) step_is))
+        trails_are : record_trails b false (step_in r.moves) (projection n.members n.sources) ≡ trails_in ways (new_len n.changes)
+        trails_are = sym handed ∙ ap (trails_in ways) (sym (planned.to ∙ planned.long))
 
         record_still : record_now t b ≡ projection old_members sources
         record_still = same_record s w.height route.settled w.start done r climbs.rises b reached.there out (closed out) (low out) reached.shallow ∙ record_was
@@ -415,7 +426,7 @@ module _ (w : Route) (order : List ℕ) (route : IsRoute w order) (passed done :
             ∙ ap (λ x. change_list (carrier_step all_stay (step_in r.moves) x (projection n.members n.sources)) n.snapshot.text) (sym record_still)
             ∙ ap (λ us. change_list (carrier_step all_stay (step_in r.moves) (record_now t b) (projection n.members n.sources)) us) (sym text_same)
 
-        step_seen_is : (record { step = carrier_step all_stay (step_in r.moves) (record_now t b) (projection n.members n.sources); trails = record_trails b false (step_in r.moves) (projection n.members n.sources) }) ≡ plain (step n.changes)
+        step_seen_is : (record { step = carrier_step all_stay (step_in r.moves) (record_now t b) (projection n.members n.sources); trails = record_trails b false (step_in r.moves) (projection n.members n.sources) }) ≡ step_of move
         step_seen_is =
             ap (λ x. stepped_by (carrier_step all_stay (step_in r.moves) x (projection n.members n.sources)) (record_trails b false (step_in r.moves) (projection n.members n.sources))) record_still
             ∙ ap (λ x. stepped_by x (record_trails b false (step_in r.moves) (projection n.members n.sources))) (sym step_is)
@@ -446,7 +457,7 @@ module _ (w : Route) (order : List ℕ) (route : IsRoute w order) (passed done :
           where
             none_by : (o : Option Move) → move_of ms b ≡ o → o ≡ None
             none_by None found = refl
-            none_by (Some m) found = absurd (some_none (plain (step (changes_of m.planned))) (ap (option_map (λ x. plain (step (changes_of x.planned)))) (sym found) ∙ sym (step_of_move ms b) ∙ climbs.rises.later b out))
+            none_by (Some m) found = absurd (some_none (step_of m) (ap (option_map (λ x. step_of x)) (sym found) ∙ sym (step_of_move ms b) ∙ climbs.rises.later b out))
 
         others : Each (λ m. m.buffer ≢ b) ms
         others = none_of ms b unmoved_here
@@ -456,7 +467,7 @@ module _ (w : Route) (order : List ℕ) (route : IsRoute w order) (passed done :
         same_count = length-set t.buffers b _
 
         rises_then : Rises s w.height w.start (b ∷ done) (record { stock = u; moves = r.moves ++ move_seen move ∷ [] })
-        rises_then = steps s w.height route.settled w.start done r climbs.rises b reached.there out (closed out) (low out) reached.shallow old_members sources record_was n.members (plain (step n.changes)) u grows same_count refl from_len to_len inside_then
+        rises_then = steps s w.height route.settled w.start done r climbs.rises b reached.there out (closed out) (low out) reached.shallow old_members sources record_was n.members (step_of move) u grows same_count from_len to_len inside_then
 
         newest_still : (m : Move) → (m.buffer ≢ b) → m.buffer < count s → IsNewest t m → IsNewest u m
         newest_still m ne in_ was = was ∙ newest_same t u m.buffer (grown_now_other t u b (projection n.members (at_now t sources)) grows m.buffer ne)
@@ -484,8 +495,8 @@ module _ (w : Route) (order : List ℕ) (route : IsRoute w order) (passed done :
             (each_weaker (λ v. is_among v.0 done ≡ true) (λ v. is_some (step_in (r.moves ++ move_seen move ∷ []) v.0) ≡ is_some (step_in r.moves v.0)) (λ v i. step_still v.0 (other v.0 i) (step_in r.moves v.0) refl) (sources_of (record_now t c)) (climbs.rises.risen c in_).closed)
           where
             step_still : (d : ℕ) → d ≢ b → (o : Option SourceStep) → step_in r.moves d ≡ o → is_some (step_in (r.moves ++ move_seen move ∷ []) d) ≡ is_some (step_in r.moves d)
-            step_still d ne (Some x) found = ap is_some (step_in_old r.moves b d (plain (step n.changes)) x found ∙ sym found)
-            step_still d ne None found = ap is_some (step_in_push r.moves b d (plain (step n.changes)) found ∙ ap (λ z. if z then Some (plain (step n.changes)) else None) (ne_eqb b d (λ e. ne (sym e))) ∙ sym found)
+            step_still d ne (Some x) found = ap is_some (step_in_old r.moves b d (step_of move) x found ∙ sym found)
+            step_still d ne None found = ap is_some (step_in_push r.moves b d (step_of move) found ∙ ap (λ z. if z then Some (step_of move) else None) (ne_eqb b d (λ e. ne (sym e))) ∙ sym found)
 
         fits_then : (c : ℕ) → c < count s → length (text_now u c) ≤ 2 ^ 22
         fits_then c in_ = elim (cases_eq c b) [

@@ -79,7 +79,7 @@ module _ (hs : List Held) (graph : List (List ℕ)) (counts : Counts) (kept : Is
   true_here = record { numbered = kept.numbered; texts = kept.texts }
 
   pub route : IsRoute (way (map known hs) g start initial (rising_of (stock hs) ms₁)) (order_in g)
-  route = is_route w g begins.is_start.len begins.others begins.is_start.levelled refl true_here kept.settled
+  route = is_route w g begins.is_start.len begins.others begins.is_start.levelled refl true_here kept.settled begins.theirs
 
   -- a buffer whose members can be set once more
   may_there : (c : ℕ) → MayTurn hs c → c < count s
@@ -124,7 +124,7 @@ module _ (hs : List Held) (graph : List (List ℕ)) (counts : Counts) (kept : Is
     ends = risen_is s g first begins.is_start ∙ climbs.folded
 
     all_done : (d : ℕ) → d < count s → is_among d done ≡ true
-    all_done d in_ = climbs.covers d (all_come w g begins.is_start.len begins.others begins.is_start.levelled refl true_here kept.settled d in_)
+    all_done d in_ = climbs.covers d (all_come w g begins.is_start.len begins.others begins.is_start.levelled refl true_here kept.settled begins.theirs d in_)
 
     plain_first : (d : ℕ) → d < count s → is_elision (record_now first.stock d) ≡ false
     plain_first d in_ = by (is_among d initial) refl

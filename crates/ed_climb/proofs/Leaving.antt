@@ -17,7 +17,7 @@ use Rattle.ed_climb.specs.Group.{known_moved, set_known}
 use Rattle.ed_climb.specs.Kept.{IsKept}
 use Rattle.ed_risen.specs.Laws.{OneVector}
 use Rattle.ed_held.specs.Moves.{AreApart, changes_of, move_of, rising_of, snapshot_of, with_move}
-use Rattle.ed_risen.specs.Rising.{HasStepped, IsSettled, Rises, plain}
+use Rattle.ed_risen.specs.Rising.{HasStepped, IsSettled, Rises}
 use Rattle.ed_climb.specs.Route.{IsNewest, newest}
 use Rattle.ed_held.specs.Seen.{Known, known, stock, stock_of}
 use Rattle.ed_climb.specs.declared.counts.Counts.{Counts}
@@ -157,7 +157,7 @@ module _ (hs hs' : List Held) (same : map known hs' ≡ map known hs) (graph gra
       let h : (h : Held) × (known h ≡ k) = held_of hs b k is in
       let long : length k.texts ≡ length k.buffer.records = subst (λ (y : Known). length y.texts ≡ length y.buffer.records) h.1 (as_many_texts h.0) in
       let was : length (buffer s b).records ≡ length k.buffer.records = ap (λ (y : Buffer). length y.records) (known_at hs b k is) in
-      let stepped : HasStepped s t b (plain (step (changes_of m.planned))) = rises.moved b (plain (step (changes_of m.planned))) (step_of_move ms b ∙ ap (option_map (λ n. plain (step (changes_of n.planned)))) found) in
+      let stepped : HasStepped s t b (step_of m) = rises.moved b (step_of m) (step_of_move ms b ∙ ap (option_map (λ n. step_of n)) found) in
       let longer : length (buffer t b).records ≡ suc (length (buffer s b).records) = stepped.longer in
       let e : v ≡ now t b = omega arith in
       let new : snapshot_of m.planned ≡ newest t m.buffer = found_each (IsNewest t) ms b m news found in

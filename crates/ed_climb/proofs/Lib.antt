@@ -4,6 +4,7 @@ pub mod KeptNumbers
 pub mod Asked
 pub mod Snapshots
 pub mod Climb
+pub mod Theirs
 pub mod Turned
 pub mod Looped
 pub mod Committed

@@ -2,33 +2,29 @@
 use Rattle.std.proofs.Common.{◌≡◌, ℕ, Bool, true, false, List, [], ◌∷◌, map, Option, Some, None, refl, sym, ap, ◌∙◌}
 use Rattle.std.specs.Prelude.{nat_eq, is_some, option_map, if◌then◌else◌}
 use Rattle.std.specs.List.{list_any, AllByRecursion as Each}
-use Rattle.ed_base.specs.Numbers.{places}
-use Rattle.ed_base.specs.ChangeList.{ChangeList, step, new_len, IsNormal}
-use Rattle.ed_base.proofs.NormalSteps.{normal_new_len}
 use Rattle.ed_stock.specs.Versions.{step_in, with_version}
 use Rattle.ed_stock.specs.Stock.{Stock, now}
 use Rattle.ed_held.specs.declared.moves.Move.{Move}
-use Rattle.ed_held.specs.Moves.{move_of, move_seen, changes_of, with_move}
-use Rattle.ed_risen.specs.Rising.{plain}
+use Rattle.ed_held.specs.Moves.{move_of, move_seen, step_of, with_move}
 use Rattle.ed_members.specs.declared.SourceStep.{SourceStep as SourceSteps}
 use Rattle.ed_members.specs.Steps.{step_seen, steps_seen}
 use Rattle.ed_climb.specs.Route.{IsNewest}
 use Rattle.ed_climb.specs.Counted.{told}
 
 -- the step of a buffer is that of its move
-pub step_of_move : (ms : List Move) (b : ℕ) → step_in (map move_seen ms) b ≡ option_map (λ m. plain (step (changes_of m.planned))) (move_of ms b)
+pub step_of_move : (ms : List Move) (b : ℕ) → step_in (map move_seen ms) b ≡ option_map (λ m. step_of m) (move_of ms b)
 step_of_move [] b = refl
 step_of_move (m ∷ ms) b = by (nat_eq m.buffer b) refl (step_of_move ms b)
   where
-    by : (t : Bool) → nat_eq m.buffer b ≡ t → step_in (map move_seen ms) b ≡ option_map (λ x. plain (step (changes_of x.planned))) (move_of ms b)
-        → step_in (map move_seen (m ∷ ms)) b ≡ option_map (λ x. plain (step (changes_of x.planned))) (move_of (m ∷ ms) b)
+    by : (t : Bool) → nat_eq m.buffer b ≡ t → step_in (map move_seen ms) b ≡ option_map (λ x. step_of x) (move_of ms b)
+        → step_in (map move_seen (m ∷ ms)) b ≡ option_map (λ x. step_of x) (move_of (m ∷ ms) b)
     by true t rest = rw t refl
     by false t rest = rw t rest
 
 is_some_same : (ms : List Move) (b : ℕ) → is_some (step_in (map move_seen ms) b) ≡ is_some (move_of ms b)
 is_some_same ms b = ap is_some (step_of_move ms b) ∙ by (move_of ms b)
   where
-    by : (o : Option Move) → is_some (option_map (λ m. plain (step (changes_of m.planned))) o) ≡ is_some o
+    by : (o : Option Move) → is_some (option_map (λ m. step_of m) o) ≡ is_some o
     by None = refl
     by (Some m) = refl
 
@@ -36,10 +32,6 @@ is_some_same ms b = ap is_some (step_of_move ms b) ∙ by (move_of ms b)
 pub any_moved : (ms : List Move) (vs : List (ℕ × ℕ)) → list_any (λ source. is_some (step_in (map move_seen ms) source)) (map (λ v. v.0) vs) ≡ list_any (λ v. is_some (move_of ms v.0)) vs
 any_moved ms [] = refl
 any_moved ms (v ∷ vs) = rw (is_some_same ms v.0, any_moved ms vs) refl
-
--- a step that no member owns anything of
-pub plain_step : (c : ChangeList) → IsNormal c → (record { step = step c; trails = map (λ q. []) (places (new_len c)) }) ≡ plain (step c)
-plain_step c normal = ap (λ n. record { step = step c; trails = map {B = List (ℕ × ℕ)} (λ q. []) (places n) }) (sym (normal_new_len c normal.changes))
 
 -- the steps that are shown, as the definitions see them
 pub seen_steps : (ss : List SourceSteps) → steps_seen ss ≡ step_in (map (λ x. (x.source, step_seen x)) ss)

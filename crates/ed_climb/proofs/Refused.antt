@@ -105,7 +105,7 @@ module _ (w : Route) (order : List â„•) (route : IsRoute w order) (all : Each (Î
 
   inside_then : Each (EndsIn t (at_now t sources)) new_members
   inside_then = members_inside s t (step_in r.moves) long.climbs.rises.moved (still_text w order route long.passed long.done long.hs long.ms long.climbs long.rest b long.split h long.held) sources sources_there b old_members 0 old_members
-      (inside_by w order route long.passed long.done long.hs long.ms long.climbs long.rest b long.split h long.held (projection old_members sources) record_was)
+      (inside_by w order route long.passed long.done long.hs long.ms long.climbs long.rest b long.split h long.held (projection old_members sources) record_was).ends
       (subst (Each (EndsInNew (step_in r.moves))) next_are (each_of (EndsInNew (step_in r.moves)) (members_after long.p.buffer (step_in r.moves) old_members) long.ends))
 
   -- ---- its version by the definitions

@@ -12,7 +12,7 @@ use Rattle.ed_graph.specs.Standing.{IsLevelled, height_in, order_in, sources_in}
 use Rattle.ed_graph.proofs.Fuel.{within_rounds}
 use Rattle.ed_stock.specs.Stock.{Stock, count, graph_order, record_now, sources_now}
 use Rattle.ed_risen.specs.Rising.{IsSettled}
-use Rattle.ed_climb.specs.Route.{AreTrue, IsReached, IsRoute, Route}
+use Rattle.ed_climb.specs.Route.{AllKeepTheirs, AreTrue, IsReached, IsRoute, Route}
 use Rattle.ed_held.specs.Seen.{known, stock, stock_of, Known}
 use Rattle.ed_risen.proofs.Growth.{missing}
 use Rattle.ed_risen.proofs.Order.{Comes, order_all, order_comes}
@@ -53,7 +53,7 @@ greatest_above f p (suc k) a b from to = elim (cases_eq b p) [
 ]
 
 module _ (w : Route) (g : List (List ℕ)) (len : length g ≡ count (stock_of w.before)) (sources_are : (c : ℕ) → is_among c w.start ≡ false → sources_in g c ≡ sources_now (stock_of w.before) c)
-    (levelled : IsLevelled g) (heights : w.height ≡ height_in g) (true_ : AreTrue (w.before)) (settled : IsSettled (stock_of w.before)) where
+    (levelled : IsLevelled g) (heights : w.height ≡ height_in g) (true_ : AreTrue (w.before)) (settled : IsSettled (stock_of w.before)) (theirs : AllKeepTheirs (stock_of w.before) w.first (order_in g)) where
   abbrev s : Stock
   s = stock_of w.before
 
@@ -82,7 +82,7 @@ module _ (w : Route) (g : List (List ℕ)) (len : length g ≡ count (stock_of w
       }
 
   pub is_route : IsRoute w (order_in g)
-  is_route = record { settled = settled; true = true_; reached = route_at }
+  is_route = record { settled = settled; true = true_; reached = route_at; theirs = theirs }
 
   -- all buffers come
   pub all_come : (c : ℕ) → c < count s → is_among c (order_in g) ≡ true

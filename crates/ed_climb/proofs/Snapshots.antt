@@ -13,7 +13,8 @@ use Rattle.ed_layers.specs.Records.{base, version_in}
 use Rattle.ed_layers.specs.Cells.{text}
 use Rattle.ed_layers.specs.SourceStep.{SourceStep, trail_at, ends_with}
 use Rattle.ed_layers.specs.Bounds.{Placed, member_after, new_bounds, placed_on}
-use Rattle.ed_members.specs.Moving.{EndsInOld, EndsInNew, Owns, OwnInside, OwnInOrder}
+use Rattle.ed_layers.specs.Owning.{Owns}
+use Rattle.ed_members.specs.Moving.{EndsInOld, EndsInNew}
 use Rattle.ed_project.specs.Records.{Projection, record_of, shown, shown_now}
 use Rattle.ed_project.specs.Texts.{HasSource, found_text, text_in, versions_of}
 use Rattle.ed_stock.specs.Stock.{Stock, Buffer, buffer, now, record_at, record_now, text_at, text_now, count}
@@ -23,11 +24,11 @@ use Rattle.ed_held.specs.declared.held.Held.{Held}
 use Rattle.ed_held.specs.declared.moves.Move.{Move}
 use Rattle.ed_held.specs.Moves.{move_of, newest_of, snapshot_now}
 use Rattle.ed_risen.specs.Rising.{EndsIn, IsSettled, HasStepped}
-use Rattle.ed_climb.specs.Route.{AreTrue, newest}
+use Rattle.ed_climb.specs.Route.{AreTrue, KeepTheirs, newest}
 use Rattle.ed_held.specs.Seen.{known, seen, stock, text_of}
 use Rattle.ed_risen.proofs.Settled.{all_of}
 use Rattle.ed_risen.proofs.FoundedLemmas.{each_weaker, each_version}
-use Rattle.ed_risen.proofs.Lengths.{no_trail}
+use Rattle.ed_risen.proofs.Lengths.{ArePlain, no_trail}
 use Rattle.ed_risen.proofs.Growth.{missing}
 use Rattle.ed_risen.proofs.RisingLemmas.{get_last}
 use Rattle.ed_risen.proofs.Texts.{named_text}
@@ -135,6 +136,21 @@ module _ (t : Stock) where
       by true q h more = rw q (ap (λ x. Some (now t x)) (eqb-true v.0 c q))
       by false q h more = rw q (more h)
 
+-- ---- where no unit has a way, no member owns one
+
+module _ (steps : ℕ → Option SourceStep) (plain : ArePlain steps) where
+  none_owned : (carrier source q : ℕ) (x : SourceStep) (m : Placed) → steps source ≡ Some x → Owns carrier x m q → ⊥
+  none_owned carrier source q x m is owned = let e : ends_with carrier (nat_eq m.index) (trail_at x q) ≡ false = ap (ends_with carrier (nat_eq m.index)) (no_trail x (plain source x is) q) in absurd (cc)
+
+  pub plain_theirs : (carrier : ℕ) (ms : List Member) → KeepTheirs carrier steps ms
+  plain_theirs carrier ms = record {
+    inside = λ source q x m is contained owned. absurd (none_owned carrier source q x m is owned);
+    order = λ source p q x m n is has_m has_n after holds_m holds_n owned. absurd (elim owned [
+      | inl o ↦ none_owned carrier source p x m is o
+      | inr o ↦ none_owned carrier source q x n is o
+    ]);
+  }
+
 -- ---- what a projection needs, of the members that lie inside
 
 module _ (s t : Stock) (steps : ℕ → Option SourceStep) (stepped : (b : ℕ) (m : SourceStep) → steps b ≡ Some m → HasStepped s t b m)
@@ -161,18 +177,6 @@ module _ (s t : Stock) (steps : ℕ → Option SourceStep) (stepped : (b : ℕ) 
 
   pub have_sources : (ms : List Member) → Each (EndsIn s sources) ms → All (HasSource steps (snaps t sources)) ms
   have_sources ms h = all_of (HasSource steps (snaps t sources)) ms (each_weaker (EndsIn s sources) (HasSource steps (snaps t sources)) has_source ms h)
-
-  none_owned : (carrier source q : ℕ) (x : SourceStep) (m : Placed) → steps source ≡ Some x → Owns carrier x m q → ⊥
-  none_owned carrier source q x m is owned = let e : ends_with carrier (nat_eq m.index) (trail_at x q) ≡ false = ap (ends_with carrier (nat_eq m.index)) (no_trail x (stepped source x is).trails q) in absurd (cc)
-
-  pub owns_inside : (carrier : ℕ) (ms : List Member) → OwnInside carrier steps ms
-  owns_inside carrier ms = λ source q x m is contained owned. absurd (none_owned carrier source q x m is owned)
-
-  pub owns_in_order : (carrier : ℕ) (ms : List Member) → OwnInOrder carrier steps ms
-  owns_in_order carrier ms = λ source p q x m n is has_m has_n after holds_m holds_n owned. absurd (elim owned [
-    | inl o ↦ none_owned carrier source p x m is o
-    | inr o ↦ none_owned carrier source q x n is o
-  ])
 
   -- the members afterwards lie inside the sources as they are then
   abbrev bounds_by : ℕ → List Member → ℕ → ℕ → Span → SpanMode → Option SourceStep → Span

@@ -12,7 +12,8 @@ use Rattle.ed_project.specs.declared.ProjectionFault.{ProjectionFault}
 use Rattle.ed_stock.specs.Versions.{is_moved, step_in}
 use Rattle.ed_held.specs.declared.held.Held.{Held}
 use Rattle.ed_held.specs.declared.moves.Move.{Move}
-use Rattle.ed_climb.specs.Climbing.{CanRise, HasRisen, HasTurned, Rested, TurnedBy, WentAlong, goes, move_to}
+use Rattle.ed_pieces.specs.declared.trails.TrailRun.{TrailRun}
+use Rattle.ed_climb.specs.Climbing.{CanRise, HasRisen, HasRisenWith, HasTurned, Rested, TurnedBy, WentAlong, goes, move_to}
 use Rattle.ed_held.specs.Advancing.{members_next}
 use Rattle.ed_climb.specs.Route.{Climbs, IsRoute, IsTooLong, Route}
 use Rattle.ed_held.specs.Seen.{stock, stock_of, Known, seen}
@@ -40,8 +41,8 @@ module _ (hs hs' : List Held) (ms ms' : List Move) (b : ℕ) (h : Held) where
 pub can_turn : (hs : List Held) (shown_moves ms : List Move) (steps : ℕ → Option SourceStep) (h : Held) → shown_moves ≡ ms → steps ≡ step_in (map move_seen ms) → CanRise hs ms (step_in (map move_seen ms)) h → CanRise hs shown_moves steps h
 can_turn hs shown_moves ms steps h same is can = subst (λ xs. CanRise hs xs steps h) (sym same) (subst (λ f. CanRise hs ms f h) (sym is) can)
 
-pub has_turned : (hs hs' : List Held) (shown_moves ms : List Move) (steps : ℕ → Option SourceStep) (b : ℕ) (h : Held) (result : Result Next ProjectionFault) → shown_moves ≡ ms → steps ≡ step_in (map move_seen ms) → HasRisen hs hs' shown_moves steps b h result → HasRisen hs hs' ms (step_in (map move_seen ms)) b h result
-has_turned hs hs' shown_moves ms steps b h result same is risen = subst (λ f. HasRisen hs hs' ms f b h result) is (subst (λ xs. HasRisen hs hs' xs steps b h result) same risen)
+pub has_turned : (hs hs' : List Held) (shown_moves ms : List Move) (steps : ℕ → Option SourceStep) (b : ℕ) (h : Held) (result : Result (Next × List TrailRun) ProjectionFault) → shown_moves ≡ ms → steps ≡ step_in (map move_seen ms) → HasRisenWith hs hs' shown_moves steps b h result → HasRisenWith hs hs' ms (step_in (map move_seen ms)) b h result
+has_turned hs hs' shown_moves ms steps b h result same is risen = subst (λ f. HasRisenWith hs hs' ms f b h result) is (subst (λ xs. HasRisenWith hs hs' xs steps b h result) same risen)
 
 -- ---- on the way
 
@@ -65,12 +66,13 @@ module _ (w : Route) (order : List ℕ) (route : IsRoute w order) (passed rest :
       let p : (done' : List ℕ) × Climbs w (passed ++ b ∷ []) done' hs ms = passes w order route passed done hs ms climbs rest b split rests in
       (p.0, subst (λ xs. Climbs w (passed ++ b ∷ []) p.0 xs ms') (sym same.0) (subst (λ xs. Climbs w (passed ++ b ∷ []) p.0 hs xs) (sym same.1) p.1))
 
-  went_on : is_moved (rising_of (stock_of w.before) ms) b ≡ true → (x : Held) → h ≡ x → (n : Next) → ms' ≡ ms ++ move_to b n ∷ [] → HasRisen hs hs' ms (step_in (map move_seen ms)) b x (Ok n) → Passed
+  went_on : is_moved (rising_of (stock_of w.before) ms) b ≡ true → (x : Held) → h ≡ x → (n : Next) (ways : List TrailRun) → ms' ≡ ms ++ move_to b n ways ∷ [] → HasRisenWith hs hs' ms (step_in (map move_seen ms)) b x (Ok (n, ways)) → Passed
   unfolding Passed
-  went_on moved (Held.Base x) is n pushed risen = absurd risen
-  went_on moved (Held.Projection p turns) is n pushed risen =
-      let on : Climbs w (passed ++ b ∷ []) (b ∷ done) hs' (ms ++ move_to b n ∷ []) =
-      climbs_on w order route passed done hs ms climbs rest b split h held moved p risen.0 turns is n risen.3 risen.4 risen.2 risen.5 risen.6 hs' risen.1 in
+  went_on moved (Held.Base x) is n ways pushed with_ways = absurd with_ways.0
+  went_on moved (Held.Projection p turns) is n ways pushed with_ways =
+      let risen : HasRisen hs hs' ms (step_in (map move_seen ms)) b (Held.Projection p turns) (Ok n) = with_ways.0 in
+      let on : Climbs w (passed ++ b ∷ []) (b ∷ done) hs' (ms ++ move_to b n ways ∷ []) =
+      climbs_on w order route passed done hs ms climbs rest b split h held moved p risen.0 turns is n risen.3 risen.4 risen.2 risen.5 risen.6 with_ways.1 ways with_ways.2 hs' risen.1 in
       (b ∷ done, subst (λ xs. Climbs w (passed ++ b ∷ []) (b ∷ done) hs' xs) (sym pushed) on)
 
   stopped : is_moved (rising_of (stock_of w.before) ms) b ≡ true → (x : Held) → h ≡ x → (e : ProjectionFault) → HasRisen hs hs' ms (step_in (map move_seen ms)) b x (Err e) → (e ≡ ProjectionFault.OutOfMemory) ⊎ ((len : ℕ) × (e ≡ ProjectionFault.Units len) × IsTooLong w order len)
@@ -88,7 +90,7 @@ module _ (w : Route) (order : List ℕ) (route : IsRoute w order) (passed rest :
   unfolding Passed
   turned_on x turned = elim (cases_Bool (goes ms b h)) [
     | inl does ↦ (let a : WentAlong hs hs' ms ms' b h (Ok x) = along_of hs hs' ms ms' b h (Ok x) does turned in
-        went_on (sym moved_is ∙ does) h refl a.0 a.1 a.2)
+        went_on (sym moved_is ∙ does) h refl a.0 a.1 a.2 a.3)
     | inr doesn't ↦ rested_on (sym moved_is ∙ doesn't) (rested_of hs hs' ms ms' b h (Ok x) doesn't turned)
   ]
 

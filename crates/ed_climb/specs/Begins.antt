@@ -15,7 +15,7 @@ use Rattle.ed_held.specs.declared.held.Held.{Held}
 use Rattle.ed_held.specs.declared.moves.Move.{Move}
 use Rattle.ed_climb.specs.Group.{MayTurn}
 use Rattle.ed_held.specs.Moves.{move_seen, rising_of}
-use Rattle.ed_climb.specs.Route.{Climbs, Route}
+use Rattle.ed_climb.specs.Route.{AllKeepTheirs, Climbs, Route}
 use Rattle.ed_held.specs.Seen.{Known, known, stock, stock_of}
 
 -- the way over this graph: the buffers of the one list may have other sources than before, those of the other are done before it begins
@@ -26,6 +26,7 @@ way ks graph start initial first = record { before = ks; height = height_in grap
 pub record Begins (ks : List Known) (hs : List Held) (graph : List (List ℕ)) (ms : List Move) (start initial : List ℕ) : Type 0 where
   pub is_start : IsStart (stock_of ks) graph (rising_of (stock_of ks) ms)
   pub others : (c : ℕ) → is_among c start ≡ false → sources_in graph c ≡ sources_now (stock_of ks) c
+  pub theirs : AllKeepTheirs (stock_of ks) (rising_of (stock_of ks) ms) (order_in graph)
   pub climbs : Climbs (way ks graph start initial (rising_of (stock_of ks) ms)) [] initial hs ms
 
 -- all that the definitions make of first versions, where the members of one buffer may have been set once more

@@ -1,11 +1,16 @@
 -- A buffer that goes along with moves of its sources.
-use Rattle.std.specs.Prelude.{◌≡◌, ◌⊎◌, ℕ, ◌<◌, ◌≤◌, ◌^◌, Bool, true, false, ◌&&◌, List, [], ◌∷◌, ◌++◌, length, map, All, Result, Ok, Err, is_some, is_none, slice_set, Option, Some}
+use Rattle.std.specs.Prelude.{◌≡◌, ◌⊎◌, ℕ, ◌<◌, ◌≤◌, ◌^◌, Bool, true, false, ◌&&◌, List, [], ◌∷◌, ◌++◌, length, map, All, Result, Ok, Err, is_some, is_none, slice_set, Option, Some, None}
 use Rattle.std.specs.List.{list_any}
 use Rattle.ed_layers.specs.SourceStep.{SourceStep}
 use Rattle.ed_project.specs.Records.{Projection, Next, IsUnchanged, shown_now}
 use Rattle.ed_project.specs.Planning.{IsPlanned, too_long}
 use Rattle.ed_members.specs.Moving.{EndsInNew}
-use Rattle.ed_layers.specs.Records.{members_len}
+use Rattle.ed_base.specs.declared.piece.Member.{Member}
+use Rattle.ed_layers.specs.CarrierStep.{record_trails}
+use Rattle.ed_layers.specs.Order.{overlap_fault}
+use Rattle.ed_layers.specs.Records.{members_len, projection}
+use Rattle.ed_pieces.specs.Trails.{trails_in}
+use Rattle.ed_pieces.specs.declared.trails.TrailRun.{TrailRun}
 use Rattle.ed_project.specs.declared.ProjectionFault.{ProjectionFault}
 use Rattle.ed_stock.specs.Versions.{step_in}
 use Rattle.ed_version.specs.declared.Snapshot.{Snapshot}
@@ -38,18 +43,27 @@ HasRisen hs hs' ms steps b (Held.Projection p turns) (Ok n) = (q : Projection) �
 HasRisen hs hs' ms steps b (Held.Base x) (Err e) = e ≡ ProjectionFault.OutOfMemory
 HasRisen hs hs' ms steps b (Held.Projection p turns) (Err e) = (e ≡ ProjectionFault.OutOfMemory) ⊎ ((too_long (members_len (members_next steps p)) ≡ Some e) × All (EndsInNew steps) (members_next steps p))
 
+-- what goes further up: the ways of the units of these members, but for their last pair
+abbrev pub HandsUp : ℕ → (ℕ → Option SourceStep) → List Member → List TrailRun → Type 0
+HandsUp b steps members trails = trails_in trails (members_len members) ≡ record_trails b false steps (projection members [])
+
+-- the same with these ways, the members being in order
+abbrev pub HasRisenWith : List Held → List Held → List Move → (ℕ → Option SourceStep) → ℕ → Held → Result (Next × List TrailRun) ProjectionFault → Type 0
+HasRisenWith hs hs' ms steps b h (Ok r) = HasRisen hs hs' ms steps b h (Ok r.0) × (overlap_fault r.0.members ≡ None) × HandsUp b steps r.0.members r.1
+HasRisenWith hs hs' ms steps b h (Err e) = (e ≡ ProjectionFault.OutOfMemory) ⊎ HasRisen hs hs' ms steps b h (Err e)
+
 -- ---- one turn
 
 -- whether it goes along now
 abbrev pub goes : List Move → ℕ → Held → Bool
 goes ms b h = is_none (move_of ms b) && is_over ms h
 
-abbrev pub move_to : ℕ → Next → Move
-move_to b n = record { buffer = b; planned = Planned.Projection n }
+abbrev pub move_to : ℕ → Next → List TrailRun → Move
+move_to b n trails = record { buffer = b; planned = Planned.Projection n; trails = trails }
 
 -- what happened to the buffers and the moves, where it went along, and where it didn't
 abbrev pub WentAlong : List Held → List Held → List Move → List Move → ℕ → Held → Result (Unit {0}) ProjectionFault → Type 0
-WentAlong hs hs' ms ms' b h (Ok x) = (n : Next) × (ms' ≡ ms ++ move_to b n ∷ []) × HasRisen hs hs' ms (step_in (map move_seen ms)) b h (Ok n)
+WentAlong hs hs' ms ms' b h (Ok x) = (n : Next) × (trails : List TrailRun) × (ms' ≡ ms ++ move_to b n trails ∷ []) × HasRisenWith hs hs' ms (step_in (map move_seen ms)) b h (Ok (n, trails))
 WentAlong hs hs' ms ms' b h (Err e) = (e ≡ ProjectionFault.OutOfMemory) ⊎ HasRisen hs hs' ms (step_in (map move_seen ms)) b h (Err e)
 
 abbrev pub Rested : List Held → List Held → List Move → List Move → Result (Unit {0}) ProjectionFault → Type 0

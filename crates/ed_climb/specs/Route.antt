@@ -1,8 +1,11 @@
 -- The way of a group through all buffers, in the order of the graph.
-use Rattle.std.specs.Prelude.{◌≡◌, ◌⊎◌, All, ℕ, ◌<◌, ◌≤◌, ◌^◌, true, false, List, ◌∷◌, ◌++◌, length, map, fold, slice_get, is_some, Result, Ok, Err, Some}
+use Rattle.std.specs.Prelude.{◌≡◌, ◌⊎◌, All, ℕ, ◌<◌, ◌≤◌, ◌^◌, true, false, List, ◌∷◌, ◌++◌, length, map, fold, slice_get, is_some, Option, Result, Ok, Err, Some}
 use Rattle.std.specs.List.{AllByRecursion as Each}
 use Rattle.ed_base.specs.Numbers.{is_among}
-use Rattle.ed_layers.specs.Records.{members_len, sources_of}
+use Rattle.ed_base.specs.declared.piece.Member.{Member}
+use Rattle.ed_layers.specs.Owning.{OwnInside, OwnInOrder}
+use Rattle.ed_layers.specs.Records.{members_len, projection, sources_of}
+use Rattle.ed_layers.specs.SourceStep.{SourceStep}
 use Rattle.ed_members.specs.Moving.{EndsInNew}
 use Rattle.ed_project.specs.Records.{Projection}
 use Rattle.ed_project.specs.declared.ProjectionFault.{ProjectionFault}
@@ -36,11 +39,22 @@ pub record IsReached (w : Route) (passed : List ℕ) (b : ℕ) : Type 0 where
   pub shallow : w.height b ≤ 8
   pub low : is_among b w.start ≡ false → Each (λ v. (is_among v.0 passed ≡ true) × (v.0 < count (stock_of w.before)) × (w.height v.0 < w.height b)) (sources_of (record_now (stock_of w.before) b))
 
+-- what members own of their sources' steps is theirs, in order
+pub record KeepTheirs (b : ℕ) (steps : ℕ → Option SourceStep) (members : List Member) : Type 0 where
+  pub inside : OwnInside b steps members
+  pub order : OwnInOrder b steps members
+
+-- That is so of each projection that goes along, when it comes.
+abbrev pub AllKeepTheirs : Stock → Rising → List ℕ → Type 0
+AllKeepTheirs s first order = (passed rest : List ℕ) (b : ℕ) (members : List Member) (sources : List (ℕ × ℕ)) → order ≡ passed ++ b ∷ rest → record_now s b ≡ projection members sources
+    → is_moved (fold (risen_at none_given) first passed) b ≡ true → KeepTheirs b (step_in (fold (risen_at none_given) first passed).moves) members
+
 -- the way through these buffers
 pub record IsRoute (w : Route) (order : List ℕ) : Type 0 where
   pub settled : IsSettled (stock_of w.before)
   pub true : AreTrue (w.before)
   pub reached : (passed rest : List ℕ) (b : ℕ) → order ≡ passed ++ b ∷ rest → IsReached w passed b
+  pub theirs : AllKeepTheirs (stock_of w.before) w.first order
 
 -- the current version of a buffer of a stock
 abbrev pub newest : Stock → ℕ → Snapshot

@@ -13,6 +13,7 @@ use crate::sources::{move_of, step_by};
 use ed_base::{BufferNo, OutOfMemory};
 use ed_held::{Held, Move, Planned};
 use ed_members::SourceStep;
+use ed_pieces::Trails;
 use ed_project::ProjectionFault;
 use std::alloc::Global;
 
@@ -24,24 +25,29 @@ fn goes(buffers: &[Held], buffer: BufferNo, moves: &[Move]) -> bool
     move_of(moves, buffer).is_none() && is_over(&buffers[buffer.0 as usize], moves)
 }
 
-/// Adds a version that was planned, and its step, as the members above see it.
+/// Adds a version that was planned, whose units came these ways, and its step, as the members above
+/// see it.
 ///
 /// # Errors
 ///
 /// Memory was refused.
 pub fn add(
-    alloc: Global,
     buffer: BufferNo,
     planned: Planned,
+    trails: Trails,
     moves: &mut Vec<Move>,
     steps: &mut Vec<SourceStep>,
 ) -> Result<(), OutOfMemory>
     requires { map (λ s. (s.source, step_seen s)) steps.old.items ≡ map move_seen moves.old.items }
     ensures seen { OnOk result (map (λ s. (s.source, step_seen s)) steps.new.items ≡ map move_seen moves.new.items) }
-    ensures moves { OnOk result (moves.new.items ≡ moves.old.items ++ (record { buffer = buffer; planned = planned }) ∷ []) }
+    ensures moves { OnOk result (moves.new.items ≡ moves.old.items ++ (record { buffer = buffer; planned = planned; trails = trails }) ∷ []) }
 {
-    steps.push(step_by(alloc, buffer, planned.changes())?)?;
-    moves.push(Move { buffer, planned })?;
+    steps.push(step_by(buffer, planned.changes(), &trails)?)?;
+    moves.push(Move {
+        buffer,
+        planned,
+        trails,
+    })?;
     Ok(())
 }
 
@@ -64,7 +70,13 @@ fn turn(
         return Ok(());
     }
     match rise(alloc, buffers, buffer, moves, steps) {
-        Ok(next) => Ok(add(alloc, buffer, Planned::Projection(next), moves, steps)?),
+        Ok((next, trails)) => Ok(add(
+            buffer,
+            Planned::Projection(next),
+            trails,
+            moves,
+            steps,
+        )?),
         Err(fault) => Err(fault),
     }
 }

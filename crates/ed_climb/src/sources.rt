@@ -1,10 +1,7 @@
 //! The sources of a buffer on the way through a group.
 ghost use Rattle.std.specs.Prelude.{◌≡◌, ℕ, ◌<◌, All, length, map, is_some, option_map, IfOk};
 ghost use Rattle.std.specs.List.{list_any};
-ghost use Rattle.ed_base.specs.ChangeList.{step};
-ghost use Rattle.ed_members.specs.Steps.{step_seen};
 ghost use Rattle.ed_held.specs.Moves.{move_of, snapshot_after, snapshot_now};
-ghost use Rattle.ed_risen.specs.Rising.{plain};
 
 use ed_base::{BufferNo, Changes, OutOfMemory, VersionNo};
 use ed_held::{Held, Move};
@@ -13,25 +10,22 @@ use ed_pieces::Trails;
 use ed_version::Snapshot;
 use std::alloc::Global;
 
-/// The step of a source to which these changes lead, of which no member owns anything.
+/// The step of a source to which these changes lead, whose units came these ways.
 ///
 /// # Errors
 ///
 /// A further holder was refused, which counts as want of memory.
 pub fn step_by(
-    alloc: Global,
     source: BufferNo,
     changes: &Changes,
+    trails: &Trails,
 ) -> Result<SourceStep, OutOfMemory>
-    ensures source { IfOk result (λ s. s.source ≡ source) }
-    ensures step { IfOk result (λ s. step_seen s ≡ plain (step changes.now)) }
+    ensures { IfOk result (λ s. s ≡ record { source = source; changes = changes.now; trails = trails.now }) }
 {
-    // The list is looked at for what is known of its form.
-    let _normal = changes.as_slice();
     Ok(SourceStep {
         source,
         changes: changes.share()?,
-        trails: Trails::empty(),
+        trails: trails.share()?,
     })
 }
 

@@ -2,18 +2,18 @@
 use Rattle.std.specs.Prelude.{◌≢◌, ℕ, ◌-◌, List, [], ◌∷◌, length, map, fold, find, nat_eq, slice_get, Option, MatchOption}
 use Rattle.std.specs.Option.{option_map_or}
 use Rattle.std.specs.List.{AllByRecursion as Each}
-use Rattle.ed_base.specs.ChangeList.{ChangeList, step}
+use Rattle.ed_base.specs.ChangeList.{ChangeList, new_len, step}
 use Rattle.ed_layers.specs.Records.{Record, base, projection}
 use Rattle.ed_layers.specs.SourceStep.{SourceStep}
 use Rattle.ed_stock.specs.Stock.{Stock}
 use Rattle.ed_stock.specs.Versions.{Rising, with_version}
 use Rattle.ed_version.specs.declared.Snapshot.{Snapshot}
 use Rattle.ed_buffer.specs.Planning as buffers
+use Rattle.ed_pieces.specs.Trails.{trails_in}
 use Rattle.ed_project.specs.Planning as projections
 use Rattle.ed_held.specs.declared.held.Held.{Held}
 use Rattle.ed_held.specs.declared.moves.Planned.{Planned}
 use Rattle.ed_held.specs.declared.moves.Move.{Move}
-use Rattle.ed_risen.specs.Rising.{plain}
 use Rattle.ed_held.specs.Seen.{Known, known, text_of}
 
 -- what leads to the version, its record and its snapshot
@@ -30,8 +30,11 @@ snapshot_of (Planned.Base s) = s.snapshot
 snapshot_of (Planned.Projection n) = n.snapshot
 
 -- the moves as the definitions see them, and the stock in which they are made
+abbrev pub step_of : Move → SourceStep
+step_of m = record { step = step (changes_of m.planned); trails = trails_in m.trails (new_len (changes_of m.planned)) }
+
 abbrev pub move_seen : Move → ℕ × SourceStep
-move_seen m = (m.buffer, plain (step (changes_of m.planned)))
+move_seen m = (m.buffer, step_of m)
 
 abbrev pub with_move : Stock → Move → Stock
 with_move s m = with_version s m.buffer (record_of m.planned) (changes_of m.planned)

@@ -4,6 +4,7 @@ ghost use Rattle.ed_held.specs.Moves.{changes_of, snapshot_of};
 
 use ed_base::{BufferNo, Changes, OutOfMemory};
 use ed_buffer::BaseStep;
+use ed_pieces::Trails;
 use ed_project::NextRecord;
 use ed_version::Snapshot;
 
@@ -14,11 +15,13 @@ pub enum Planned {
     Projection(NextRecord),
 }
 
-/// A version that was planned, and the buffer that it will be a version of.
+/// A version that was planned, the buffer that it will be a version of, and the ways by which the
+/// units that it puts in were sent to that buffer.
 #[derive(Drop)]
 pub struct Move {
     pub buffer: BufferNo,
     pub planned: Planned,
+    pub trails: Trails,
 }
 
 impl Planned {

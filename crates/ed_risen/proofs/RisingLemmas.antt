@@ -205,27 +205,17 @@ module _ (s : Stock) (height : ℕ → ℕ) (settled : IsSettled s) (start done 
 
     -- ---- it steps
 
-    module _ (members : List Member) (sources : List (ℕ × ℕ)) (is : record_now s b ≡ projection members sources) (new : List Member) (m : SourceStep) (u : Stock)
-        (grows : Grows r.stock u b (projection new (at_now r.stock sources))) (same_count : count u ≡ count r.stock)
-        (from : m.step.old_len ≡ length (text_now s b)) (to : m.step.new_len ≡ length (text_now u b)) (new_inside : StandInside r.stock (at_now r.stock sources) new) where
+    module _ (next : Record) (closed_next : Each (λ v. is_among v.0 done ≡ true) (sources_of next)) (current_next : Each (IsNow r.stock) (sources_of next)) (levels_next : Each (Founded (record_at r.stock) (height b)) (sources_of next))
+        (names_next : map (λ v. v.0) (sources_of next) ≡ sources_now s b) (inside_next : Inside r.stock next) (m : SourceStep) (u : Stock)
+        (grows : Grows r.stock u b next) (same_count : count u ≡ count r.stock) (from : m.step.old_len ≡ length (text_now s b)) (to : m.step.new_len ≡ length (text_now u b)) where
       abbrev after : Rising
       after = record { stock = u; moves = r.moves ++ (b, m) ∷ [] }
-
-      abbrev next : Record
-      next = projection new (at_now r.stock sources)
-
-      closed_here : Each (λ v. is_among v.0 done ≡ true) sources
-      closed_here = subst (λ x. Each (λ v. is_among v.0 done ≡ true) (sources_of x)) is closed
-
-      levels_here : Each (λ v. Founded (record_at r.stock) (height b) (v.0, now r.stock v.0)) sources
-      levels_here = subst (λ x. Each (λ v. Founded (record_at r.stock) (height b) (v.0, now r.stock v.0)) (sources_of x)) is levels
 
       extends_here : Extends (record_at r.stock) (record_at u)
       extends_here = grown_extends r.stock u b next grows
 
-      pub founded_here : AreFounded u
-      founded_here = grown_founded r.stock u b next grows rises.founded
-          (at_now_each r.stock (Founded (record_at r.stock) 8) sources (each_weaker _ _ (λ v f. founded_more (record_at r.stock) (height b) 8 (v.0, now r.stock v.0) (shallow) f) sources levels_here))
+      founded_to : AreFounded u
+      founded_to = grown_founded r.stock u b next grows rises.founded (each_weaker _ _ (λ v f. founded_more (record_at r.stock) (height b) 8 v (shallow) f) (sources_of next) levels_next)
 
       -- what is done stays as it is
       same_of : (v : ℕ × ℕ) → is_among v.0 done ≡ true → Same r.stock u v
@@ -237,21 +227,16 @@ module _ (s : Stock) (height : ℕ → ℕ) (settled : IsSettled s) (start done 
       now_after : (vs : List (ℕ × ℕ)) → Each (λ v. is_among v.0 done ≡ true) vs → Each (Same r.stock u) vs
       now_after vs h = each_weaker (λ v. is_among v.0 done ≡ true) (Same r.stock u) same_of vs h
 
-      done_now : Each (λ v. is_among v.0 done ≡ true) (at_now r.stock sources)
-      done_now = at_now_each r.stock (λ v. is_among v.0 done ≡ true) sources closed_here
-
       risen_here : IsRisen u height (b ∷ done) b
       risen_here =
           let record_is : record_now u b ≡ next = grown_record_now r.stock u b next grows in
-          let levels_now : Each (Founded (record_at u) (height b)) (at_now r.stock sources) =
-          at_now_each r.stock (Founded (record_at u) (height b)) sources (each_weaker _ _ (λ v f. founded_in (record_at r.stock) (record_at u) extends_here (height b) (v.0, now r.stock v.0) f) sources levels_here) in
-          let currents : Each (IsNow r.stock) (at_now r.stock sources) = at_now_each r.stock (IsNow r.stock) sources (each_weaker (λ v. is_among v.0 done ≡ true) _ (λ v i. refl) sources closed_here) in
+          let levels_now : Each (Founded (record_at u) (height b)) (sources_of next) = each_weaker _ _ (λ v f. founded_in (record_at r.stock) (record_at u) extends_here (height b) v f) (sources_of next) levels_next in
           record {
-            closed = rw record_is (closed_more (at_now r.stock sources) done_now);
-            current = rw record_is (each_both (Same r.stock u) (IsNow r.stock) (IsNow u) (λ v same is. is ∙ sym same.at) (at_now r.stock sources) (now_after (at_now r.stock sources) done_now) currents);
+            closed = rw record_is (closed_more (sources_of next) closed_next);
+            current = rw record_is (each_both (Same r.stock u) (IsNow r.stock) (IsNow u) (λ v same is. is ∙ sym same.at) (sources_of next) (now_after (sources_of next) closed_next) current_next);
             shallow = founded_of (record_at u) (height b) (b, now u b) (record_now u b)
                 (now_is_there u b (let l : length (buffer u b).records ≡ suc (length (buffer r.stock b).records) = grown_length r.stock u b next grows in omega arith)) (rw record_is levels_now);
-            inside = rw record_is (inside_same r.stock u next (now_after (at_now r.stock sources) done_now) new_inside);
+            inside = rw record_is (inside_same r.stock u next (now_after (sources_of next) closed_next) inside_next);
           }
 
       risen_other : (c : ℕ) → is_among c done ≡ true → IsRisen u height (b ∷ done) c
@@ -317,15 +302,15 @@ module _ (s : Stock) (height : ℕ → ℕ) (settled : IsSettled s) (start done 
       names_after : (c : ℕ) → is_among c start ≡ false → sources_now u c ≡ sources_now s c
       names_after c h = elim (cases_eq c b) [
         | inl e ↦ subst (λ x. sources_now u x ≡ sources_now s x) (sym e)
-            (ap (λ x. map (λ v. v.0) (sources_of x)) (grown_record_now r.stock u b next grows) ∙ at_now_names r.stock sources ∙ ap (λ x. map (λ v. v.0) (sources_of x)) (sym is))
+            (ap (λ x. map (λ v. v.0) (sources_of x)) (grown_record_now r.stock u b next grows) ∙ names_next)
         | inr ne ↦ ap (λ x. map (λ v. v.0) (sources_of x)) (grown_record_other r.stock u b next grows c ne) ∙ rises.names c h
       ]
 
-      pub steps : Rises s height start (b ∷ done) after
-      steps = record {
+      steps_to : Rises s height start (b ∷ done) after
+      steps_to = record {
         same_count = same_count ∙ rises.same_count;
         extends = λ c v x h. extends_here c v x (rises.extends c v x h);
-        founded = founded_here;
+        founded = founded_to;
         names = names_after;
         started = λ c h. rises.started c ((or_parts (nat_eq c b) (is_among c done) h).1);
         unmoved = unmoved_after;
@@ -337,3 +322,36 @@ module _ (s : Stock) (height : ℕ → ℕ) (settled : IsSettled s) (start done 
           | inr i ↦ risen_other c i
         ];
       }
+
+    -- a projection, over its sources as they are now
+
+    module _ (members : List Member) (sources : List (ℕ × ℕ)) (is : record_now s b ≡ projection members sources) (new : List Member) (m : SourceStep) (u : Stock)
+        (grows : Grows r.stock u b (projection new (at_now r.stock sources))) (same_count : count u ≡ count r.stock)
+        (from : m.step.old_len ≡ length (text_now s b)) (to : m.step.new_len ≡ length (text_now u b)) (new_inside : StandInside r.stock (at_now r.stock sources) new) where
+      closed_here : Each (λ v. is_among v.0 done ≡ true) sources
+      closed_here = subst (λ x. Each (λ v. is_among v.0 done ≡ true) (sources_of x)) is closed
+
+      closed_now : Each (λ v. is_among v.0 done ≡ true) (at_now r.stock sources)
+      closed_now = at_now_each r.stock (λ v. is_among v.0 done ≡ true) sources closed_here
+
+      current_now : Each (IsNow r.stock) (at_now r.stock sources)
+      current_now = at_now_each r.stock (IsNow r.stock) sources (each_weaker (λ v. is_among v.0 done ≡ true) _ (λ v i. refl) sources closed_here)
+
+      levels_now : Each (Founded (record_at r.stock) (height b)) (at_now r.stock sources)
+      levels_now = at_now_each r.stock (Founded (record_at r.stock) (height b)) sources (subst (λ x. Each (λ v. Founded (record_at r.stock) (height b) (v.0, now r.stock v.0)) (sources_of x)) is levels)
+
+      names_now : map (λ v. v.0) (at_now r.stock sources) ≡ sources_now s b
+      names_now = at_now_names r.stock sources ∙ ap (λ x. map (λ v. v.0) (sources_of x)) (sym is)
+
+      pub founded_here : AreFounded u
+      founded_here = founded_to (projection new (at_now r.stock sources)) closed_now current_now levels_now names_now new_inside m u grows same_count from to
+
+      pub steps : Rises s height start (b ∷ done) (record { stock = u; moves = r.moves ++ (b, m) ∷ [] })
+      steps = steps_to (projection new (at_now r.stock sources)) closed_now current_now levels_now names_now new_inside m u grows same_count from to
+
+  -- a base, which stands on no buffer
+
+  pub lands : (b : ℕ) → b < count s → is_among b done ≡ false → (shallow : height b ≤ 8) → sources_of (record_now s b) ≡ [] → (text : List ℕ) (reiterated : ℕ) (m : SourceStep) (u : Stock) → Grows r.stock u b (base text reiterated) → count u ≡ count r.stock
+      → m.step.old_len ≡ length (text_now s b) → m.step.new_len ≡ length (text_now u b) → Rises s height start (b ∷ done) (record { stock = u; moves = r.moves ++ (b, m) ∷ [] })
+  lands b there out shallow none text reiterated m u grows same_count from to =
+      steps_to b there out (subst (Each (λ v. is_among v.0 done ≡ true)) (sym none) tt) (subst (Each (λ v. (v.0 < count s) × (height v.0 < height b))) (sym none) tt) shallow (base text reiterated) tt tt tt (ap (map (λ v. v.0)) (sym none)) tt m u grows same_count from to

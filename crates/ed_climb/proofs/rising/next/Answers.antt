@@ -5,7 +5,7 @@ use Rattle.ed_held.specs.declared.held.Held.{Held}
 use Rattle.ed_held.specs.Moves.{snapshot_after}
 use Rattle.ed_climb.specs.Climbing.{HasRisen, source_snapshots}
 use Rattle.ed_climb.proofs.Advanced.{element, map_set, can_held, advanced_known, risen_by}
-use Rattle.ed_climb.proofs.rising.rise.Goals as goal
+use Rattle.ed_climb.proofs.rising.next.Goals as goal
 
 pub planned-requires : goal.planned-requires
 planned-requires c =
