@@ -1,16 +1,15 @@
 -- Base buffers, and the steps that are planned for them.
-use Rattle.std.specs.Prelude.{◌≡◌, ◌⊎◌, Result, Ok, Err, ℕ, ◌<◌, ◌≤◌, ◌^◌, ◌+◌, ◌-◌, List, [], length, map, nat_lt, Option, Some, None, option_map, All, if◌then◌else◌}
+use Rattle.std.specs.Prelude.{◌≡◌, ◌⊎◌, Result, Ok, Err, ℕ, ◌<◌, ◌≤◌, ◌^◌, ◌+◌, ◌-◌, List, length, map, nat_lt, Option, Some, None, option_map, All, if◌then◌else◌, sum_by}
 use Rattle.ed_base.specs.Numbers.{or_else}
 use Rattle.ed_base.specs.declared.Piece.{Piece}
-use Rattle.ed_base.specs.declared.Side.{Side}
-use Rattle.ed_base.specs.declared.Replace.{Replace}
-use Rattle.ed_base.specs.ChangeList.{ChangeList, applied, normal_form, new_len}
-use Rattle.ed_base.specs.Edit.{edited, units_put_in}
+use Rattle.ed_base.specs.ChangeList.{ChangeList, applied, change_list, new_len}
 use Rattle.ed_base.specs.Hooks.{HookTable}
 use Rattle.ed_base.specs.Denial.{first_denied}
 use Rattle.ed_version.specs.declared.Snapshot.{Snapshot}
 use Rattle.ed_version.specs.Chain.{Chain, now, text_now, MayRepeat, IsOriginal, IsSame}
 use Rattle.ed_readonly.specs.LiveRegions.{LiveRegions}
+use Rattle.ed_layers.specs.Pieces.{marked_text, step_of_pieces}
+use Rattle.ed_pieces.specs.declared.TrailRun.{TrailRun}
 use Rattle.ed_buffer.specs.declared.fault.BaseFault.{BaseFault}
 
 -- a base buffer: its versions, and its read-only regions
@@ -18,26 +17,17 @@ pub record Base : Type 0 where
   pub chain : Chain
   pub regions : LiveRegions
 
--- the version that comes next: what leads to it, its snapshot, and the version that it repeats
+-- the version that comes next: what leads to it, the ways by which the new units came, its snapshot, and the version that it repeats
 pub record NextVersion : Type 0 where
   pub changes : ChangeList
+  pub trails : List TrailRun
   pub snapshot : Snapshot
   pub reiterated : ℕ
 
 -- ---- pieces
 
--- The pieces of an edit of the buffer itself came through no carrier, and each is a replace.
-abbrev pub IsOwn : Piece → Type 0
-IsOwn p = (p.trail ≡ []) × (p.side ≡ Side.M)
-
-abbrev pub as_replace : Piece → Replace
-as_replace p = record { start = p.start; len = p.len; text = p.text }
-
-abbrev pub replaces : List Piece → List Replace
-replaces pieces = map as_replace pieces
-
 abbrev pub put_in : List Piece → ℕ
-put_in pieces = units_put_in (replaces pieces)
+put_in pieces = sum_by (λ p. length p.text) pieces
 
 -- each piece ends within a text of this length
 abbrev pub AreInside : ℕ → List Piece → Type 0
@@ -45,10 +35,10 @@ AreInside len pieces = All (λ p. p.start + p.len ≤ len) pieces
 
 -- the text that the pieces leave, and the change list that leads to it
 abbrev pub text_left : List Piece → List ℕ → List ℕ
-text_left pieces text = edited (replaces pieces) text
+text_left pieces text = map (λ u. u.0) (marked_text pieces text)
 
 abbrev pub changes_left : List Piece → List ℕ → ChangeList
-changes_left pieces text = normal_form (replaces pieces) (length text)
+changes_left pieces text = change_list (step_of_pieces pieces (length text)) (text_left pieces text)
 
 -- ---- faults
 

@@ -1,22 +1,23 @@
 //! Base buffers.
-ghost use Rattle.std.specs.Prelude.{◌≡◌, ◌-◌, ◌<◌, ◌≤◌, ◌^◌, ◌++◌, ◌∷◌, [], ℕ, length, All, IfOk, OnOk, OnErr, Some, None};
+ghost use Rattle.std.specs.Prelude.{◌≡◌, ◌-◌, ◌<◌, ◌≤◌, ◌^◌, ◌++◌, ◌∷◌, [], ℕ, length, map, IfOk, OnOk, OnErr, Some, None};
 ghost use Rattle.ed_base.specs.ChangeList.{applied, new_len, step as step_of_changes};
 ghost use Rattle.ed_base.specs.Denial.{regions_after};
 ghost use Rattle.ed_base.specs.Spans.{end_of};
 ghost use Rattle.ed_callbacks.specs.HookLists.{hook_table};
 ghost use Rattle.ed_readonly.specs.LiveRegions.{with_region, without_region, is_live, limit_passed, limit_told};
 ghost use Rattle.ed_version.specs.Chain.{opening, version, text_now};
-ghost use Rattle.ed_buffer.specs.Planning.{IsOwn, put_in, AreInside, text_left, changes_left, fault_of, Answers, MayBeNamed, IsNext, IsPlanned, IsUnchanged};
+ghost use Rattle.ed_layers.specs.Pieces.{marked_text};
+ghost use Rattle.ed_pieces.specs.Trails.{trails_in};
+ghost use Rattle.ed_buffer.specs.Planning.{put_in, AreInside, text_left, changes_left, fault_of, Answers, MayBeNamed, IsNext, IsPlanned, IsUnchanged};
 
 use crate::fault::BaseFault;
 use crate::planned::BaseStep;
-use crate::replaces::replaces_of;
 use ed_base::{
     BufferNo, Changes, EdgeMode, Name, OutOfMemory, Piece, RegionNo, Span, SpanMode, Unit,
     VersionNo,
 };
 use ed_callbacks::Hooks;
-use ed_change::{ChangeFault, normalise};
+use ed_pieces::{Landing, land};
 use ed_readonly::{RegionFault, Regions};
 use ed_text::{DocText, MOST_UNITS, Text};
 use ed_version::{Chain, Snapshot};
@@ -101,36 +102,36 @@ impl Base {
         None
     }
 
-    /// The change list of the pieces.
-    fn changes_of(&self, alloc: Global, pieces: &[Piece]) -> Result<Changes, OutOfMemory>
+    /// What the pieces make of the current text.
+    fn landing(&self, alloc: Global, pieces: &[Piece]) -> Result<Landing, OutOfMemory>
         requires inside { AreInside (length (text_now self.now.chain.versions)) pieces.now }
         requires put_in { put_in pieces.now ≤ 2 ^ 27 }
-        ensures changes { IfOk result (λ c. c ≡ changes_left pieces.now (text_now self.now.chain.versions)) }
-        ensures text { IfOk result (λ c. applied c (text_now self.now.chain.versions) ≡ text_left pieces.now (text_now self.now.chain.versions)) }
+        ensures changes { IfOk result (λ l. l.changes ≡ changes_left pieces.now (text_now self.now.chain.versions)) }
+        ensures text { IfOk result (λ l. applied l.changes (text_now self.now.chain.versions) ≡ text_left pieces.now (text_now self.now.chain.versions)) }
+        ensures trails { IfOk result (λ l. trails_in l.trails (length (text_left pieces.now (text_now self.now.chain.versions))) ≡ map (λ u. u.1) (marked_text pieces.now (text_now self.now.chain.versions))) }
     {
-        let replaces = replaces_of(alloc, pieces)?;
-        match normalise(alloc, self.text().len(), replaces.as_slice()) {
-            Ok(changes) => Ok(changes),
-            Err(ChangeFault::OutOfRange { .. } | ChangeFault::OutOfMemory) => Err(OutOfMemory),
-        }
+        let landing = land(alloc, self.text().len(), pieces)?;
+        Ok(landing)
     }
 
     /// The next version, to which changes of the current text lead.
     fn next(
         &self,
         alloc: Global,
-        changes: Changes,
+        landing: Landing,
         reiterated: Option<VersionNo>,
     ) -> Result<BaseStep, OutOfMemory>
         requires number { length self.now.chain.versions < 2 ^ 32 - 1 }
-        requires from { changes.old_len ≡ length (text_now self.now.chain.versions) }
-        requires fits { new_len changes ≤ 2 ^ 22 }
-        requires named { MayBeNamed self.now (applied changes (text_now self.now.chain.versions)) reiterated }
-        ensures changes { IfOk result (λ s. s.changes ≡ changes) }
+        requires from { landing.changes.old_len ≡ length (text_now self.now.chain.versions) }
+        requires fits { new_len landing.changes ≤ 2 ^ 22 }
+        requires named { MayBeNamed self.now (applied landing.changes (text_now self.now.chain.versions)) reiterated }
+        ensures changes { IfOk result (λ s. s.changes ≡ landing.changes) }
+        ensures trails { IfOk result (λ s. s.trails ≡ landing.trails) }
         ensures next { IfOk result (λ s. IsNext self.now s) }
         ensures own { reiterated ≡ None → IfOk result (λ s. s.reiterated ≡ length self.now.chain.versions) }
         ensures other { (r : ℕ) → reiterated ≡ Some r → IfOk result (λ s. s.reiterated ≡ r) }
     {
+        let Landing { changes, trails } = landing;
         let now = self.chain.now();
         let version = VersionNo(now.0 + 1);
         let snapshot = Snapshot {
@@ -140,15 +141,17 @@ impl Base {
         };
         Ok(BaseStep {
             changes,
+            trails,
             snapshot,
             reiterated: reiterated.unwrap_or(version),
         })
     }
 
     /// Plans the step that the pieces make of the current text: it does all that can fail, and changes
-    /// nothing but the room for versions. The pieces came through no carrier and lie inside the text;
-    /// together they put in at most 2^27 units. A reiterated number names a version that has the text
-    /// that the pieces leave and repeats itself; without one the new version repeats itself.
+    /// nothing but the room for versions. The pieces lie inside the text, and together put in at most
+    /// 2^27 units; they may have come through carriers, and the step keeps the way of each unit. A
+    /// reiterated number names a version that has the text that the pieces leave and repeats itself;
+    /// without one the new version repeats itself.
     ///
     /// # Errors
     ///
@@ -161,7 +164,6 @@ impl Base {
         pieces: &[Piece],
         reiterated: Option<VersionNo>,
     ) -> Result<BaseStep, BaseFault>
-        requires own { All IsOwn pieces.now }
         requires inside { AreInside (length (text_now self.old.chain.versions)) pieces.now }
         requires put_in { put_in pieces.now ≤ 2 ^ 27 }
         requires number { length self.old.chain.versions < 2 ^ 32 - 1 }
@@ -173,12 +175,13 @@ impl Base {
         ensures own_number { reiterated ≡ None → IfOk result (λ s. s.reiterated ≡ length self.old.chain.versions) }
         ensures other_number { (r : ℕ) → reiterated ≡ Some r → IfOk result (λ s. s.reiterated ≡ r) }
         ensures planned { IfOk result (λ s. IsPlanned self.new s) }
+        ensures trails { IfOk result (λ s. trails_in s.trails (length (text_left pieces.now (text_now self.old.chain.versions))) ≡ map (λ u. u.1) (marked_text pieces.now (text_now self.old.chain.versions))) }
     {
-        let changes = self.changes_of(alloc, pieces)?;
-        if let Some(fault) = self.fault(hooks, &changes) {
+        let landing = self.landing(alloc, pieces)?;
+        if let Some(fault) = self.fault(hooks, &landing.changes) {
             return Err(fault);
         }
-        let step = self.next(alloc, changes, reiterated)?;
+        let step = self.next(alloc, landing, reiterated)?;
         self.chain.reserve()?;
         Ok(step)
     }
@@ -198,6 +201,7 @@ impl Base {
             changes,
             snapshot,
             reiterated,
+            ..
         } = step;
         self.regions.advance(&changes);
         self.chain.push(snapshot.text, changes, reiterated);

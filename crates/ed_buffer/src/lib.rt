@@ -4,9 +4,9 @@
 mod base;
 mod fault;
 mod planned;
-mod replaces;
 
 pub use base::Base;
 pub use ed_base::{Piece, Side, Trail};
+pub use ed_pieces::{TrailRun, Trails};
 pub use fault::BaseFault;
 pub use planned::BaseStep;

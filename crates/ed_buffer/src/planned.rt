@@ -2,6 +2,7 @@
 ghost use Rattle.std.specs.Prelude.{◌≡◌, IfOk};
 
 use ed_base::{Changes, OutOfMemory, VersionNo};
+use ed_pieces::Trails;
 use ed_version::Snapshot;
 use std::marker::Model;
 
@@ -9,6 +10,7 @@ use std::marker::Model;
 #[derive(Drop)]
 pub struct BaseStep {
     pub(crate) changes: Changes,
+    pub(crate) trails: Trails,
     pub(crate) snapshot: Snapshot,
     pub(crate) reiterated: VersionNo,
 }
@@ -18,7 +20,7 @@ impl Model for BaseStep {
 
     ghost Value = { NextVersion };
 
-    ghost view = { λ s. record { changes = s.changes; snapshot = s.snapshot; reiterated = s.reiterated } };
+    ghost view = { λ s. record { changes = s.changes; trails = s.trails; snapshot = s.snapshot; reiterated = s.reiterated } };
 }
 
 impl BaseStep {
@@ -27,6 +29,13 @@ impl BaseStep {
         ensures { result.now ≡ self.now.changes }
     {
         &self.changes
+    }
+
+    /// The ways by which the units that it puts in came.
+    pub fn trails(&self) -> &Trails
+        ensures { result.now ≡ self.now.trails }
+    {
+        &self.trails
     }
 
     /// The snapshot of the next version.

@@ -8,7 +8,7 @@ use Rattle.std.proofs.lemmas.Bool.{cases_Bool}
 use denote.Ref.{Bor}
 use Rattle.ed_base.specs.declared.piece.Piece.{Piece}
 use Rattle.ed_layers.specs.Pieces as pieces
-use Rattle.ed_layers.specs.Pieces.{Component, put_at, gone_at, marked_text, piece_origins, arrived, marked_units}
+use Rattle.ed_layers.specs.Pieces.{Component, put_at, gone_at, marked_text, piece_origins, arrived, marked_units, unmarked}
 use Rattle.ed_pieces.specs.Arrivals.{AllWithin, component_if, sweep}
 use Rattle.ed_pieces.specs.Order.{text_at, AreInOrder}
 use Rattle.ed_pieces.proofs.Parts.{Units, forth, parts, forth_parts}
@@ -24,10 +24,10 @@ rises_sorted n (r ∷ rs) h w =
     let later : RisesFrom 0 n rs = rises_sorted n rs (λ i j d le lt. h (suc i) (suc j) d (omega arith) (omega arith)) (λ k d lt. w (suc k) d (omega arith)) in
     (omega arith, w 0 r (omega arith), rises_after r.start n rs later (λ d l. h 0 1 d (omega arith) (omega arith)))
 
--- what arrives is the parts, for a text of that length
-arrived_parts : (ps : List Piece) (xs : List ℕ) → arrived ps (length xs) ≡ map forth (parts (put_at ps) (gone_at ps) 0 0 0 [] [] xs)
+-- what arrives is the parts, for any list of that length
+pub arrived_parts : {X : Type 0} (ps : List Piece) (xs : List X) → arrived ps (length xs) ≡ map forth (parts (put_at ps) (gone_at ps) 0 0 0 [] [] xs)
 unfolding arrived
-arrived_parts ps xs = forth_parts (put_at ps) (gone_at ps) (marked_text ps (replicate (length xs) 0)) 0 0 0 [] [] xs (length xs) (length (piece_origins ps (length xs))) refl refl (omega arith) (omega arith)
+arrived_parts ps xs = forth_parts (put_at ps) (gone_at ps) (marked_text ps (replicate (length xs) 0)) 0 0 0 [] [] xs (map unmarked (replicate (length xs) 0)) (length xs) (length (piece_origins ps (length xs))) (length-map (replicate (length xs) 0) unmarked ∙ length-replicate (length xs) 0) refl refl (omega arith) (omega arith)
 
 module _ (n : ℕ) (all sorted : List Piece) (order : AreInOrder all sorted) (within : AllWithin n all) where
   sorted_rises : RisesFrom 0 n sorted

@@ -4,3 +4,6 @@ pub mod Arriving
 pub mod Cutting
 pub mod Standing
 pub mod Keys
+pub mod Changing
+pub mod Marking
+pub mod Laying

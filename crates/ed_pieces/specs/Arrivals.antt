@@ -1,8 +1,10 @@
 -- What arrives at a buffer.
-use Rattle.std.specs.Prelude.{ℕ, ◌+◌, ◌-◌, ◌≤◌, ◌^◌, List, [], ◌∷◌, ◌++◌, length, max, nat_eq, nat_le, sum_by, if◌then◌else◌}
+use Rattle.std.specs.Prelude.{ℕ, ◌+◌, ◌-◌, ◌≤◌, ◌^◌, List, [], ◌∷◌, ◌++◌, length, map, max, nat_eq, nat_le, sum_by, if◌then◌else◌}
 use Rattle.std.specs.List.{All}
 use Rattle.ed_base.specs.declared.piece.Piece.{Piece}
+use Rattle.ed_base.specs.ChangeList.{AreNormalFrom}
 use Rattle.ed_layers.specs.Pieces.{Component, component, marked_units}
+use Rattle.ed_pieces.specs.Ways.{change_of}
 
 -- the length of the text, and the components by rising place
 pub record Arrival : Type 0 where
@@ -13,13 +15,15 @@ pub record Arrival : Type 0 where
 abbrev pub AllWithin : ℕ → List Piece → Type 0
 AllWithin n pieces = All (λ p. p.start + p.len ≤ n) pieces
 
--- the text is short, and each component ends within it
+abbrev pub units_put_in : List Component → ℕ
+units_put_in cs = sum_by (λ c. length c.text) cs
+
+-- The text is short, and each component ends within it. As changes they are in normal form, and put in a number of units that is no problem.
 pub record IsArrival (old_len : ℕ) (components : List Component) : Type 0 where
   pub short : old_len ≤ 2 ^ 22
   pub within : All (λ c. c.start + c.old_len ≤ old_len) components
-
-abbrev pub units_put_in : List Component → ℕ
-units_put_in cs = sum_by (λ c. length c.text) cs
+  pub normal : AreNormalFrom 0 old_len (map change_of components)
+  pub few : units_put_in components ≤ 2 ^ 27
 
 -- the component that deletes the units from i up to e and puts text in, if it does anything
 abbrev pub component_if : ℕ → ℕ → List (ℕ × List (ℕ × ℕ)) → List Component

@@ -2,3 +2,4 @@ pub mod Runs
 pub mod Arrivals
 pub mod Order
 pub mod Trails
+pub mod Ways

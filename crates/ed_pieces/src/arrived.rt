@@ -41,7 +41,7 @@ impl Arrived {
     pub fn of(alloc: Global, len: u32, pieces: &[Piece]) -> Result<Arrived, OutOfMemory>
         requires len { len ≤ 2 ^ 22 }
         requires within { AllWithin len pieces.now }
-        requires put_in { sum_by (λ p. length p.text) pieces.now ≤ 2 ^ 22 }
+        requires put_in { sum_by (λ p. length p.text) pieces.now ≤ 2 ^ 27 }
         ensures old_len { IfOk result (λ a. a.old_len ≡ len) }
         ensures components { IfOk result (λ a. a.components ≡ arrived pieces.now len) }
     {
@@ -51,6 +51,16 @@ impl Arrived {
             old_len: len,
             parts,
         })
+    }
+
+    /// The length of the text, and the components.
+    pub(crate) fn into_parts(self) -> (u32, Vec<Part>)
+        ensures old_len { result.0 ≡ self.old_len }
+        ensures components { result.1.items ≡ self.components }
+        ensures arrival { IsArrival self.old_len self.components }
+    {
+        let Arrived { old_len, parts } = self;
+        (old_len, parts)
     }
 
     /// The length of the text.

@@ -3,6 +3,7 @@
 #![tactic(auto)]
 
 mod arrived;
+mod landing;
 mod order;
 mod part;
 mod pending;
@@ -10,6 +11,7 @@ mod run;
 mod trails;
 
 pub use arrived::Arrived;
+pub use landing::{Landing, land};
 pub use part::Part;
 pub use run::{Run, cut_runs};
 pub use trails::{TrailRun, Trails};

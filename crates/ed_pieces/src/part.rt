@@ -1,6 +1,7 @@
 //! A component of what arrives at a buffer.
 ghost use Rattle.std.specs.Prelude.{◌≡◌, ◌+◌};
 ghost use Rattle.ed_layers.specs.Pieces.{component};
+ghost use Rattle.ed_layers.specs.Sending.{trail_runs};
 ghost use Rattle.ed_pieces.specs.Runs.{AreRuns, text_of};
 
 use crate::run::Run;
@@ -59,5 +60,13 @@ impl Part {
         ensures runs { AreRuns result.now }
     {
         self.runs.as_slice()
+    }
+
+    /// What it puts in, owned.
+    pub fn into_runs(self) -> Vec<Run>
+        ensures text { text_of result.items ≡ self.text }
+        ensures runs { result.items ≡ trail_runs self.text }
+    {
+        self.runs
     }
 }

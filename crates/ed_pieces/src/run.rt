@@ -73,6 +73,15 @@ impl Run {
         self.units
     }
 
+    /// The way and the units, owned.
+    pub fn into_parts(self) -> (Trail, Units)
+        ensures trail { result.0 ≡ self.trail }
+        ensures units { result.1 ≡ self.units }
+    {
+        let Run { trail, units } = self;
+        (trail, units)
+    }
+
     /// Puts units of the same way at the end.
     fn extend(&mut self, units: &[Unit]) -> Result<(), OutOfMemory>
         ensures { OnOk result (self.new ≡ joined_run self.old units.now) }
