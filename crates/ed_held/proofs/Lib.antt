@@ -1,3 +1,2 @@
 pub mod KindLemmas
-pub mod OwnPieces
-pub mod Relisted
+pub mod Landed
