@@ -211,7 +211,7 @@ place_at : (n q : ℕ) → q < n → slice_get (places n) q ≡ Some q
 place_at n q below = slice_get-get_or (places n) q 0 (let l : length (places n) ≡ n = length-range_with_len 0 n in omega arith)
     ∙ ap Some (get_or-range_with_len 0 n q 0 below ∙ (let z : 0 + q ≡ q = omega arith in z))
 
-trail_is : (x : SourceStep) (q : ℕ) → q < new_len x.changes → trail_at (step_seen x) q ≡ trail_in x.trails q
+pub trail_is : (x : SourceStep) (q : ℕ) → q < new_len x.changes → trail_at (step_seen x) q ≡ trail_in x.trails q
 trail_is x q below = ap (λ (o : Option (List (ℕ × ℕ))). unwrap_or o []) (slice_get-map (trail_in x.trails) (places (new_len x.changes)) q ∙ ap (option_map (trail_in x.trails)) (place_at (new_len x.changes) q below))
 
 -- ---- all that a member holds

@@ -14,3 +14,4 @@ pub mod NextStarts
 pub mod After
 pub mod Within
 pub mod StayApart
+pub mod HandingUp

@@ -36,10 +36,10 @@ is_step_below k i indices is = elim (cases_lt i (length indices)) [
 ]
 
 -- a trail ends with a member where that is the one that it names last
-pub owner_ends : (carrier i : ℕ) (trail : List (ℕ × ℕ)) → ends_with carrier (nat_eq i) trail ≡ option_map_or (nat_eq i) (owner_in carrier trail) false
-owner_ends carrier i [] = refl
-owner_ends carrier i (p ∷ []) = elim (cases_Bool (nat_eq p.0 carrier)) [ inl t ↦ rw t refl | inr f ↦ rw f refl ]
-owner_ends carrier i (p ∷ q ∷ ps) = owner_ends carrier i (q ∷ ps)
+pub owner_ends : (carrier : ℕ) (test : ℕ → Bool) (trail : List (ℕ × ℕ)) → ends_with carrier test trail ≡ option_map_or test (owner_in carrier trail) false
+owner_ends carrier test [] = refl
+owner_ends carrier test (p ∷ []) = elim (cases_Bool (nat_eq p.0 carrier)) [ inl t ↦ rw t refl | inr f ↦ rw f refl ]
+owner_ends carrier test (p ∷ q ∷ ps) = owner_ends carrier test (q ∷ ps)
 
 -- the last pair names it, or another carrier
 pub named_last : (me : ℕ) (trail : List (ℕ × ℕ)) (pair : ℕ × ℕ) → Some pair ≡ slice_get trail (length trail - 1) → nat_eq pair.0 me ≡ true → Some pair.1 ≡ owner_in me trail
@@ -53,7 +53,7 @@ module _ (me n k : ℕ) (indices : List (Option ℕ)) (held : List (Option Held)
   put_at i = if is_step k (slice_get indices i) then with_run me n i (get_or held i None) run else get_or held i None
 
   owner_is : (i : ℕ) (o : Option ℕ) → owner_in me run.trail ≡ o → is_owner me i run ≡ option_map_or (nat_eq i) o false
-  owner_is i o is = owner_ends me i run.trail ∙ ap (λ (o : Option ℕ). option_map_or (nat_eq i) o false) is
+  owner_is i o is = owner_ends me (nat_eq i) run.trail ∙ ap (λ (o : Option ℕ). option_map_or (nat_eq i) o false) is
 
   passed_by : (i : ℕ) → is_owner me i run ≡ false → get_or held i None ≡ put_at i
   passed_by i other = same (is_step k (slice_get indices i))

@@ -6,3 +6,4 @@ pub mod Moving
 pub mod Sorted
 pub mod Advance
 pub mod Nexts
+pub mod Ways

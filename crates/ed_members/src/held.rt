@@ -41,7 +41,11 @@ fn put_first(
 }
 
 /// The index of the first step of each source.
-fn first_steps(alloc: Global, steps: &[SourceStep]) -> Result<BTreeMap<u32, usize>, OutOfMemory>
+///
+/// # Errors
+///
+/// Memory was refused.
+pub fn first_steps(alloc: Global, steps: &[SourceStep]) -> Result<BTreeMap<u32, usize>, OutOfMemory>
     ensures { IfOk result (λ m. (source : ℕ) → get nat_cmp m source ≡ index_from 0 source steps.now) }
 {
     let mut first = BTreeMap::new(alloc);
@@ -52,7 +56,11 @@ fn first_steps(alloc: Global, steps: &[SourceStep]) -> Result<BTreeMap<u32, usiz
 }
 
 /// The index of the step of the member's source.
-fn index_in(first: &BTreeMap<u32, usize>, steps: &[SourceStep], member: &Member) -> Option<usize>
+pub fn index_in(
+    first: &BTreeMap<u32, usize>,
+    steps: &[SourceStep],
+    member: &Member,
+) -> Option<usize>
     requires { (source : ℕ) → get nat_cmp first.now source ≡ index_from 0 source steps.now }
     ensures { result ≡ step_index steps.now member.now }
 {

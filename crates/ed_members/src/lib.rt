@@ -14,6 +14,7 @@ mod sorted;
 mod starts;
 mod steps;
 mod sweeps;
+mod ways;
 
 pub use fault::MemberFault;
 pub use members::Members;
