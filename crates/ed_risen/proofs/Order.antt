@@ -27,7 +27,7 @@ among_right (x ∷ xs) ys c h = by (nat_eq c x) refl (among_right xs ys c h)
     by true t rest = rw t refl
     by false t rest = rw t rest
 
-among_each : (P : ℕ → Type 0) (xs : List ℕ) (c : ℕ) → Each P xs → is_among c xs ≡ true → P c
+pub among_each : (P : ℕ → Type 0) (xs : List ℕ) (c : ℕ) → Each P xs → is_among c xs ≡ true → P c
 among_each P [] c all h = absurd (cc)
 among_each P (x ∷ xs) c all h = by (nat_eq c x) refl h (among_each P xs c all.1)
   where
@@ -135,6 +135,8 @@ module _ (H : ℕ → ℕ) where
       pub fresh : is_among b ys ≡ false
       pub lower : (c : ℕ) → c < n → lo ≤ H c → H c < H b → is_among c ys ≡ true
       pub no_higher : Each (λ c. H c ≤ H b) ys
+      -- of one height, the lower number comes first
+      pub earlier : Each (λ y. H y ≡ H b → y < b) ys
 
     each_weaker : (P Q : ℕ → Type 0) → ((x : ℕ) → P x → Q x) → (xs : List ℕ) → Each P xs → Each Q xs
     each_weaker P Q step [] h = tt
@@ -154,6 +156,7 @@ module _ (H : ℕ → ℕ) where
               fresh = not_among ys b (λ i. let l : (b < b) × (H b ≡ lo) = among_each (λ y. (y < b) × (H y ≡ lo)) ys b r.below i in absurd (omega (arith, l.0)));
               lower = λ c there from below. absurd (let l : H b ≡ lo = r.is in omega arith);
               no_higher = each_weaker (λ y. (y < b) × (H y ≡ lo)) (λ y. H y ≤ H b) (λ y both. let l : H b ≡ lo = r.is in omega (arith, both.1)) ys r.below;
+              earlier = each_weaker (λ y. (y < b) × (H y ≡ lo)) (λ y. H y ≡ H b → y < b) (λ y both same. both.0) ys r.below;
             }
         by (second ys' f g) more =
             let c : Comes (lo + 1) k ys' b = more ys' g in
@@ -169,6 +172,7 @@ module _ (H : ℕ → ℕ) where
                 | inr ne ↦ subst (λ xs. is_among d xs ≡ true) (sym f) (among_right (level_from lo 0 n) ys' d (c.lower d there (omega arith) below))
               ];
               no_higher = subst (Each (λ y. H y ≤ H b)) (sym f) (each_append (λ y. H y ≤ H b) (level_from lo 0 n) ys' (each_weaker (λ x. H x ≡ lo) (λ y. H y ≤ H b) (λ y at. let m : lo + 1 ≤ H b = c.from in omega arith) (level_from lo 0 n) (level_each lo 0 n)) c.no_higher);
+              earlier = subst (Each (λ y. H y ≡ H b → y < b)) (sym f) (each_append (λ y. H y ≡ H b → y < b) (level_from lo 0 n) ys' (each_weaker (λ x. H x ≡ lo) (λ y. H y ≡ H b → y < b) (λ y at same. let m : lo + 1 ≤ H b = c.from in absurd (omega arith)) (level_from lo 0 n) (level_each lo 0 n)) c.earlier);
             }
 
     all_come : (lo k c : ℕ) → c < n → lo ≤ H c → H c < lo + k → is_among c (levels lo k) ≡ true

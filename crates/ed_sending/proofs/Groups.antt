@@ -16,3 +16,4 @@ pub mod SentInside
 pub mod SettledStocks
 pub mod Advances
 pub mod SentUnits
+pub mod LandedBases

@@ -4,3 +4,4 @@ pub mod FullText
 pub mod GapOrder
 pub mod FilteredText
 pub mod NormalForm
+pub mod PiecesAgain
