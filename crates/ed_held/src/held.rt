@@ -10,6 +10,7 @@ ghost use Rattle.ed_readonly.specs.LiveRegions.{limit_passed, limit_told};
 ghost use Rattle.ed_track.specs.Linked.{AreLinked, len_after, len_before};
 ghost use Rattle.ed_held.specs.Asking.{IsBase, regions_of, with_region, without_region, zoned};
 ghost use Rattle.ed_held.specs.Making.{IsProjection, known_grown, known_turned};
+ghost use Rattle.ed_held.specs.declared.moves.Move.{Move};
 ghost use Rattle.ed_held.specs.Moves.{CanMake};
 ghost use Rattle.ed_held.specs.Seen.{known, last_of, reiterated_of, text_of};
 
@@ -205,12 +206,12 @@ impl Held {
     }
 
     /// Makes a version that was planned of the buffer as it is. It takes no memory.
-    pub fn commit(&mut self, next: Move)
-        requires { CanMake self.old next.planned }
-        ensures known { known self.new ≡ known_grown (known self.old) next }
+    fn make(&mut self, planned: Planned)
+        requires { CanMake self.old planned }
+        ensures known { (m : Move) → m.planned ≡ planned → known self.new ≡ known_grown (known self.old) m }
         ensures turning { IsProjection self.old → IsProjection self.new }
     {
-        match (self, next.planned) {
+        match (self, planned) {
             (Held::Base(base), Planned::Base(step)) => {
                 base.commit(step);
             }
@@ -219,6 +220,16 @@ impl Held {
             }
             _ => unreachable!(),
         }
+    }
+
+    /// Makes a version that was planned of the buffer as it is. It takes no memory.
+    pub fn commit(&mut self, next: Move)
+        requires { CanMake self.old next.planned }
+        ensures known { known self.new ≡ known_grown (known self.old) next }
+        ensures turning { IsProjection self.old → IsProjection self.new }
+    {
+        let Move { planned, .. } = next;
+        self.make(planned);
     }
 
     /// One turn more of a projection.
