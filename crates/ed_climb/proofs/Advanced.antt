@@ -72,3 +72,8 @@ module _ (hs : List Held) (ms : List Move) (steps : ℕ → Option SourceStep) (
       let fits : members_len (members_next steps p) ≤ 2 ^ 22 = none_long (members_len (members_next steps p)) (answered_ok (too_long (members_len (members_next steps p))) n h.2.fault) in
       (h.0, ap (slice_set hs b) h.1, h.2.same, h.2.next, h.2.planned, subst (All (EndsInNew steps)) (sym h.2.next.members) h.2.within, subst (λ ns. members_len ns ≤ 2 ^ 22) (sym h.2.next.members) fits)
   risen_by (Held.Projection p turns) new (Err e) can h = answered_err steps (members_next steps p) (too_long (members_len (members_next steps p))) e h.2.fault h.2.within
+
+-- the members that were planned end within their sources
+pub ends_of : (hs hs' : List Held) (ms : List Move) (steps : ℕ → Option SourceStep) (b : ℕ) (h : Held) (n : Next) → HasRisen hs hs' ms steps b h (Ok n) → All (EndsInNew steps) n.members
+ends_of hs hs' ms steps b (Held.Base x) n risen = absurd risen
+ends_of hs hs' ms steps b (Held.Projection p turns) n risen = risen.5

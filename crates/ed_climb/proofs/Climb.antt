@@ -69,7 +69,7 @@ base_sources [] i = refl
 base_sources (v ∷ vs) zero = refl
 base_sources (v ∷ vs) (suc i) = base_sources vs i
 
-apart_push : (ms : List Move) (m : Move) → AreApart ms → Each (λ n. n.buffer ≢ m.buffer) ms → AreApart (ms ++ m ∷ [])
+pub apart_push : (ms : List Move) (m : Move) → AreApart ms → Each (λ n. n.buffer ≢ m.buffer) ms → AreApart (ms ++ m ∷ [])
 apart_push [] m h k = (tt, tt)
 apart_push (n ∷ ns) m h k = (each_push (λ x. x.buffer ≢ n.buffer) ns m h.0 (λ e. k.0 (sym e)), apart_push ns m h.1 k.1)
 

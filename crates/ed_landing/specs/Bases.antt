@@ -1,0 +1,37 @@
+-- A base on which pieces land, among the buffers that are held.
+use Rattle.std.specs.Prelude.{◌≡◌, ◌⊎◌, ℕ, Bool, not, ◌&&◌, List, [], ◌∷◌, ◌++◌, length, nat_eq, slice_set, Result, Ok, Err, Some, None}
+use Rattle.ed_base.specs.declared.Piece.{Piece}
+use Rattle.ed_base.specs.Hooks.{HookTable}
+use Rattle.ed_buffer.specs.Planning as buffers
+use Rattle.ed_buffer.specs.Planning.{Base, NextVersion, changes_left, fault_of}
+use Rattle.ed_buffer.specs.declared.BaseFault.{BaseFault}
+use Rattle.ed_layers.specs.Records.{is_carrier}
+use Rattle.ed_version.specs.Chain.{text_now}
+use Rattle.ed_held.specs.declared.held.Held.{Held}
+use Rattle.ed_held.specs.declared.moves.Move.{Move}
+use Rattle.ed_held.specs.declared.moves.Planned.{Planned}
+use Rattle.ed_held.specs.Landing.{IsNextBy}
+use Rattle.ed_held.specs.Seen.{known, last_of}
+
+-- whether it is a base, and there are pieces for it
+abbrev pub is_met : Held → List Piece → Bool
+is_met h ps = not (is_carrier (last_of (known h).buffer)) && not (nat_eq (length ps) 0)
+
+abbrev pub move_by : ℕ → NextVersion → Move
+move_by b st = record { buffer = b; planned = Planned.Base st; trails = st.trails }
+
+-- the base has room for the version to which the pieces lead, which is the next move
+pub record IsLanded (hs hs' : List Held) (ms ms' : List Move) (b : ℕ) (x : Base) (ps : List Piece) : Type 0 where
+  pub base : Base
+  pub next : NextVersion
+  pub set : hs' ≡ slice_set hs b (Held.Base base)
+  pub moves : ms' ≡ ms ++ move_by b next ∷ []
+  pub same : buffers.IsUnchanged x base
+  pub planned : buffers.IsPlanned base next
+  pub by : IsNextBy x ps next
+
+-- what an answer says: the move is planned, or the base's own fault is told
+abbrev pub HasLandedAmong : HookTable → List Held → List Held → List Move → List Move → ℕ → Held → List Piece → Result (Unit {0}) BaseFault → Type 0
+HasLandedAmong hooks hs hs' ms ms' b (Held.Base x) ps (Ok r) = (fault_of hooks x (changes_left ps (text_now x.chain.versions)) ≡ None) × IsLanded hs hs' ms ms' b x ps
+HasLandedAmong hooks hs hs' ms ms' b (Held.Base x) ps (Err e) = (e ≡ BaseFault.OutOfMemory) ⊎ ((fault_of hooks x (changes_left ps (text_now x.chain.versions)) ≡ Some e) × (ms' ≡ ms))
+HasLandedAmong hooks hs hs' ms ms' b (Held.Projection p turns) ps r = ⊥
