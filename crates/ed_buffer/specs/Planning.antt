@@ -1,15 +1,18 @@
 -- Base buffers, and the steps that are planned for them.
 use Rattle.std.specs.Prelude.{◌≡◌, ◌⊎◌, Result, Ok, Err, ℕ, ◌<◌, ◌≤◌, ◌^◌, ◌+◌, ◌-◌, List, length, map, nat_lt, Option, Some, None, option_map, All, if◌then◌else◌, sum_by}
+use Rattle.std.specs.Option.{is_some}
 use Rattle.ed_base.specs.Numbers.{or_else}
 use Rattle.ed_base.specs.declared.Piece.{Piece}
-use Rattle.ed_base.specs.ChangeList.{ChangeList, applied, change_list, new_len}
+use Rattle.ed_base.specs.ChangeList.{ChangeList, applied, change_list, step, new_len}
 use Rattle.ed_base.specs.Hooks.{HookTable}
 use Rattle.ed_base.specs.Denial.{first_denied}
 use Rattle.ed_version.specs.declared.Snapshot.{Snapshot}
 use Rattle.ed_version.specs.Chain.{Chain, now, text_now, MayRepeat, IsOriginal, IsSame}
 use Rattle.ed_readonly.specs.LiveRegions.{LiveRegions}
 use Rattle.ed_layers.specs.Pieces.{marked_text, step_of_pieces}
+use Rattle.ed_layers.specs.SourceStep.{kept_from}
 use Rattle.ed_pieces.specs.declared.TrailRun.{TrailRun}
+use Rattle.ed_pieces.specs.Trails.{trail_in}
 use Rattle.ed_buffer.specs.declared.fault.BaseFault.{BaseFault}
 
 -- a base buffer: its versions, and its read-only regions
@@ -23,6 +26,10 @@ pub record NextVersion : Type 0 where
   pub trails : List TrailRun
   pub snapshot : Snapshot
   pub reiterated : ℕ
+
+-- the way of the unit at a new place, and none where it was kept
+abbrev pub way_at : NextVersion → ℕ → Option (List (ℕ × ℕ))
+way_at s q = if is_some (kept_from (step s.changes) q) then None else Some (trail_in s.trails q)
 
 -- ---- pieces
 

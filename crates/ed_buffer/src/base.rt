@@ -6,7 +6,7 @@ ghost use Rattle.ed_base.specs.Spans.{end_of};
 ghost use Rattle.ed_callbacks.specs.HookLists.{hook_table};
 ghost use Rattle.ed_readonly.specs.LiveRegions.{with_region, without_region, is_live, limit_passed, limit_told};
 ghost use Rattle.ed_version.specs.Chain.{opening, version, text_now};
-ghost use Rattle.ed_layers.specs.Pieces.{marked_text};
+ghost use Rattle.ed_layers.specs.Pieces.{marked_text, step_of_pieces};
 ghost use Rattle.ed_pieces.specs.Trails.{trails_in};
 ghost use Rattle.ed_buffer.specs.Planning.{put_in, AreInside, text_left, changes_left, fault_of, Answers, MayBeNamed, IsNext, IsPlanned, IsUnchanged};
 
@@ -107,6 +107,7 @@ impl Base {
         requires inside { AreInside (length (text_now self.now.chain.versions)) pieces.now }
         requires put_in { put_in pieces.now ≤ 2 ^ 27 }
         ensures changes { IfOk result (λ l. l.changes ≡ changes_left pieces.now (text_now self.now.chain.versions)) }
+        ensures step { IfOk result (λ l. step_of_changes l.changes ≡ step_of_pieces pieces.now (length (text_now self.now.chain.versions))) }
         ensures text { IfOk result (λ l. applied l.changes (text_now self.now.chain.versions) ≡ text_left pieces.now (text_now self.now.chain.versions)) }
         ensures trails { IfOk result (λ l. trails_in l.trails (length (text_left pieces.now (text_now self.now.chain.versions))) ≡ map (λ u. u.1) (marked_text pieces.now (text_now self.now.chain.versions))) }
     {
@@ -175,6 +176,7 @@ impl Base {
         ensures own_number { reiterated ≡ None → IfOk result (λ s. s.reiterated ≡ length self.old.chain.versions) }
         ensures other_number { (r : ℕ) → reiterated ≡ Some r → IfOk result (λ s. s.reiterated ≡ r) }
         ensures planned { IfOk result (λ s. IsPlanned self.new s) }
+        ensures step { IfOk result (λ s. step_of_changes s.changes ≡ step_of_pieces pieces.now (length (text_now self.old.chain.versions))) }
         ensures trails { IfOk result (λ s. trails_in s.trails (length (text_left pieces.now (text_now self.old.chain.versions))) ≡ map (λ u. u.1) (marked_text pieces.now (text_now self.old.chain.versions))) }
     {
         let landing = self.landing(alloc, pieces)?;

@@ -1,8 +1,13 @@
 //! A step that was planned and not yet made.
-ghost use Rattle.std.specs.Prelude.{◌≡◌, IfOk};
+ghost use Rattle.std.specs.Prelude.{◌≡◌, IfOk, option_map};
+ghost use Rattle.std.specs.Option.{is_some};
+ghost use Rattle.ed_base.specs.ChangeList.{step};
+ghost use Rattle.ed_layers.specs.SourceStep.{kept_from};
+ghost use Rattle.ed_buffer.specs.Planning.{way_at};
 
-use ed_base::{Changes, OutOfMemory, VersionNo};
+use ed_base::{BufferNo, Changes, OutOfMemory, PointMode, VersionNo};
 use ed_pieces::Trails;
+use ed_track::back_point;
 use ed_version::Snapshot;
 use std::marker::Model;
 
@@ -23,6 +28,20 @@ impl Model for BaseStep {
     ghost view = { λ s. record { changes = s.changes; trails = s.trails; snapshot = s.snapshot; reiterated = s.reiterated } };
 }
 
+/// Whether the unit at this new place was kept: then the points before and behind it go to two
+/// places of the old text.
+fn is_kept(changes: &Changes, at: u32) -> bool
+    ensures { result ≡ is_some (kept_from (step changes.now) at) }
+{
+    let _normal = changes.as_slice();
+    if at >= changes.new_len() {
+        return false;
+    }
+    let before = back_point(PointMode::Positive, at, changes);
+    let behind = back_point(PointMode::Positive, at + 1, changes);
+    before != behind
+}
+
 impl BaseStep {
     /// What leads from the current version to the next.
     pub fn changes(&self) -> &Changes
@@ -36,6 +55,17 @@ impl BaseStep {
         ensures { result.now ≡ self.now.trails }
     {
         &self.trails
+    }
+
+    /// The way of the unit at this new place: none exactly where the unit was kept, and an empty way
+    /// where it is of the edit's own. It looks the place up by bisection.
+    pub fn trail(&self, at: u32) -> Option<&[(BufferNo, u32)]>
+        ensures { option_map (λ t. t.now) result ≡ way_at self.now at }
+    {
+        if is_kept(&self.changes, at) {
+            return None;
+        }
+        Some(self.trails.at(at))
     }
 
     /// The snapshot of the next version.

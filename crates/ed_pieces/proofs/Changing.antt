@@ -1,7 +1,9 @@
 -- Components as the changes of a list in normal form, and what they make of a text.
 use Rattle.std.proofs.Common.{◌≡◌, ℕ, suc, ◌+◌, ◌-◌, ◌≤◌, max, Bool, true, false, nat_eq, nat_le, ◌&&◌, List, [], ◌∷◌, ◌++◌, length, map, replicate, take, drop, refl, sym, ap, ◌∙◌, arith, length-append, append_assoc, if◌then◌else◌, inl, inr}
 use Rattle.std.specs.Prelude.{sum_by}
-use Rattle.std.specs.List.{slice_range}
+use Rattle.std.specs.List.{slice_range, range_with_len}
+use Rattle.std.proofs.lemmas.List.FromFn.{length-range_with_len}
+use Rattle.std.specs.Prelude.{Option, None}
 use Rattle.std.proofs.lemmas.List.{append-nil, map-append, drop_at, length-map, length-replicate, take-map, drop-map}
 use Rattle.std.proofs.lemmas.List.Sums.{sum_by-cons}
 use Rattle.std.proofs.lemmas.List.Sorted.{sum_by-IsPermutation}
@@ -9,9 +11,10 @@ use Rattle.std.proofs.lemmas.Bool.{cases_Bool}
 use Rattle.ed_base.specs.declared.edit.Change.{Change}
 use Rattle.ed_base.specs.declared.piece.Piece.{Piece}
 use Rattle.ed_base.specs.Edit.{woven}
-use Rattle.ed_base.specs.ChangeList.{ChangeList, change, component, components, change_list, applied, new_len, AreNormalFrom}
+use Rattle.ed_base.specs.ChangeList.{ChangeList, change, component, components, change_list, applied, step, new_len, AreNormalFrom}
+use Rattle.ed_base.specs.Step.{Step, pairs_from}
 use Rattle.ed_base.proofs.NormalLists.{normal_earlier, given, sum_by_given}
-use Rattle.ed_base.proofs.NormalSteps.{spliced, woven_spliced}
+use Rattle.ed_base.proofs.NormalSteps.{spliced, woven_spliced, olds, unplaced, normal_origins}
 use Rattle.ed_layers.specs.Pieces as pieces
 use Rattle.ed_layers.specs.Pieces.{Component, put_at, gone_at, marked_text, piece_origins, step_of_pieces, arrived, marked_units, unmarked}
 use Rattle.ed_pieces.specs.Arrivals.{AllWithin, component_if, sweep, units_put_in}
@@ -156,6 +159,40 @@ text_arrived ps text =
     ∙ laid_spliced 0 cs text
     ∙ ap (laid (map (λ u. u.0)) 0 cs) (sym (without_ways text))
     ∙ marked_laid (λ u. u.0) ps text
+
+-- ---- what they keep
+
+-- no old place
+abbrev placeless : Units → List (Option ℕ)
+placeless us = map (λ u. None) us
+
+placeless_same : (us : Units) → unplaced (map (λ u. u.0) us) ≡ placeless us
+placeless_same [] = refl
+placeless_same (u ∷ us) = ap (λ z. None ∷ z) (placeless_same us)
+
+laid_placeless : (i : ℕ) (cs : List Component) (xs : List (Option ℕ)) → spliced unplaced i (map change_of cs) xs ≡ laid placeless i cs xs
+laid_placeless i [] xs = refl
+laid_placeless i (c ∷ cs) xs =
+    ap (λ z. take (c.start - i) xs ++ (unplaced (map (λ u. u.0) c.text) ++ z)) (laid_placeless (c.start + c.old_len) cs (drop (c.start - i + c.old_len) xs))
+    ∙ ap (λ z. take (c.start - i) xs ++ (z ++ laid placeless (c.start + c.old_len) cs (drop (c.start - i + c.old_len) xs))) (placeless_same c.text)
+
+-- the step in which the units come from these places
+abbrev step_from : ℕ → List (Option ℕ) → Step
+step_from n units = record { old_len = n; new_len = length units; kept = pairs_from 0 units }
+
+-- the step of the changes is that of the pieces
+pub step_arrived : (ps : List Piece) (n : ℕ) → step (listed n (map change_of (arrived ps n))) ≡ step_of_pieces ps n
+step_arrived ps n =
+    let xs : List (Option ℕ) = olds 0 n in
+    let size : length xs ≡ n = length-map (range_with_len 0 n) _ ∙ length-range_with_len 0 n in
+    let normal : AreNormalFrom 0 n (map change_of (arrived ps n)) = rw size at (arrived_normal ps xs) in
+    let parts_are : arrived ps n ≡ map forth (parts (put_at ps) (gone_at ps) 0 0 0 [] [] xs) = rw size at (arrived_parts ps xs) in
+    ap (step_from n) (
+    normal_origins n (map change_of (arrived ps n)) normal
+    ∙ laid_placeless 0 (arrived ps n) xs
+    ∙ ap (λ cs. laid placeless 0 cs xs) parts_are
+    ∙ laid_parts placeless (put_at ps) (gone_at ps) refl (λ s t. map-append (λ u. None) s t) 0 0 0 [] [] xs refl
+    )
 
 -- ---- how much they put in
 

@@ -1,11 +1,13 @@
 -- The ways of the units that components put in, place by place.
 use Rattle.std.proofs.Common.{◌≡◌, ℕ, zero, suc, ◌+◌, ◌-◌, ◌<◌, ◌≤◌, Bool, true, false, List, [], ◌∷◌, ◌++◌, length, map, take, drop, replicate, refl, sym, ap, ◌∙◌, arith, length-append, append_assoc, inl, inr}
 use Rattle.std.specs.Prelude.{nat_le, nat_lt}
-use Rattle.std.specs.List.{range_with_len}
+use Rattle.std.proofs.Common.{get_or, if◌then◌else◌}
+use Rattle.std.specs.List.{AllWithin, range_with_len}
+use Rattle.std.specs.List.Sorted.{IsNonDecreasingBy}
 use Rattle.std.proofs.lemmas.Bool.{cases_Bool}
 use Rattle.std.proofs.lemmas.Bool.Decides.{nat_tests}
 use Rattle.std.proofs.lemmas.List.{append-nil, map-append, length-map, length-replicate}
-use Rattle.ed_base.specs.ChangeList.{ChangeList, AreNormalFrom, applied, change_list}
+use Rattle.ed_base.specs.ChangeList.{ChangeList, AreNormalFrom, applied, change_list, step}
 use Rattle.ed_base.specs.Spans.{end_of, holds_place}
 use Rattle.ed_base.proofs.NormalLists.{normal_earlier}
 use Rattle.ed_layers.specs.Pieces.{Component, marked_text, step_of_pieces, arrived, unmarked}
@@ -17,7 +19,7 @@ use Rattle.ed_pieces.specs.Ways.{change_of, way_if, ways_of, ways_from}
 use Rattle.ed_pieces.specs.declared.trails.TrailRun.{TrailRun}
 use Rattle.ed_pieces.proofs.Parts.{Units}
 use Rattle.ed_pieces.proofs.Cutting.{same_way_is}
-use Rattle.ed_pieces.proofs.Changing.{laid, listed, marked_laid, arrived_normal, changes_arrived, text_arrived}
+use Rattle.ed_pieces.proofs.Changing.{laid, listed, marked_laid, arrived_normal, changes_arrived, step_arrived, text_arrived}
 
 abbrev Trail : Type 0
 Trail = List (ℕ × ℕ)
@@ -72,6 +74,37 @@ behind p q (v ∷ vs) ws h l =
     let f : nat_lt q (end_of v.span) ≡ false = grind (arith, nat_tests, h.0) in
     let g : holds_place v.span q ≡ false = elim (cases_Bool (nat_le v.span.start q)) [ inl t ↦ rw (t, f) refl | inr e ↦ rw e refl ] in
     rw g (behind p q vs ws h.1 l)
+
+-- ---- by a binary search
+
+later_start : (p : ℕ) (ws : List TrailRun) (k : ℕ) (d : TrailRun) → AreRising p ws → k < length ws → p ≤ (get_or ws k d).span.start
+later_start p [] k d h l = absurd (omega arith)
+later_start p (w ∷ ws) zero d h l = h.0
+later_start p (w ∷ ws) (suc k) d h l = omega (arith, h.0, later_start (end_of w.span) ws k d h.1 (omega arith))
+
+pub rising_starts : (p : ℕ) (ws : List TrailRun) → AreRising p ws → IsNonDecreasingBy (λ w. w.span.start) ws
+rising_starts p [] h i j d le lt = absurd (omega arith)
+rising_starts p (w ∷ ws) h zero zero d le lt = omega arith
+rising_starts p (w ∷ ws) h zero (suc j) d le lt = omega (arith, later_start (end_of w.span) ws j d h.1 (omega arith))
+rising_starts p (w ∷ ws) h (suc i) zero d le lt = absurd (omega arith)
+rising_starts p (w ∷ ws) h (suc i) (suc j) d le lt = rising_starts (end_of w.span) ws h.1 i j d (omega arith) (omega arith)
+
+pub none_begun : (p q : ℕ) (ws : List TrailRun) → AreRising p ws → AllWithin (λ w. nat_le w.span.start q ≡ false) ws 0 (length ws) → trail_in ws q ≡ []
+none_begun p q [] h after = refl
+none_begun p q (w ∷ ws) h after = rw (after 0 w (omega arith) (omega arith)) (none_begun (end_of w.span) q ws h.1 (λ k d l m. after (suc k) d (omega arith) (omega arith)))
+
+-- of those that have begun only the last one matters
+pub last_begun : (p q : ℕ) (ws : List TrailRun) (k : ℕ) (d : TrailRun) → AreRising p ws → k < length ws → AllWithin (λ w. nat_le w.span.start q ≡ true) ws 0 (suc k) → AllWithin (λ w. nat_le w.span.start q ≡ false) ws (suc k) (length ws) → trail_in ws q ≡ (if nat_lt q (end_of (get_or ws k d).span) then (get_or ws k d).trail else [])
+last_begun p q [] k d h l before after = absurd (omega arith)
+last_begun p q (w ∷ ws) zero d h l before after = elim (cases_Bool (nat_lt q (end_of w.span))) [
+  | inl t ↦ rw (before 0 d (omega arith) (omega arith), t) refl
+  | inr f ↦ rw (before 0 d (omega arith) (omega arith), f) (none_begun (end_of w.span) q ws h.1 (λ k d l m. after (suc k) d (omega arith) (omega arith)))
+]
+last_begun p q (w ∷ ws) (suc k) d h l before after =
+    let next : nat_le (get_or ws k d).span.start q ≡ true = before (suc k) d (omega arith) (omega arith) in
+    let low : end_of w.span ≤ (get_or ws k d).span.start = later_start (end_of w.span) ws k d h.1 (omega arith) in
+    let f : nat_lt q (end_of w.span) ≡ false = grind (arith, nat_tests) in
+    rw (before 0 d (omega arith) (omega arith), f) (last_begun (end_of w.span) q ws k d h.1 (omega arith) (λ j e l m. before (suc j) e (omega arith) (omega arith)) (λ j e l m. after (suc j) e (omega arith) (omega arith)))
 
 -- ---- the ways of one run
 
@@ -235,6 +268,7 @@ ways_arrived ps text =
 -- What holds of the changes and the ways that are made of the components.
 pub record IsLanded (ps : List Piece) (n : ℕ) (c : ChangeList) (ws : List TrailRun) : Type 0 where
   pub changes : (text : List ℕ) → length text ≡ n → c ≡ change_list (step_of_pieces ps (length text)) (map (λ u. u.0) (marked_text ps text))
+  pub step : step c ≡ step_of_pieces ps n
   pub text : (text : List ℕ) → length text ≡ n → applied c text ≡ map (λ u. u.0) (marked_text ps text)
   pub trails : (text : List ℕ) → length text ≡ n → trails_in ws (length (map (λ u. u.0) (marked_text ps text))) ≡ map (λ u. u.1) (marked_text ps text)
 
@@ -244,6 +278,7 @@ is_landed ps n old_len cs c ws old are changes ways =
     let ways_same : ws ≡ ways_from 0 0 (arrived ps n) = ways ∙ ap (ways_from 0 0) are in
     record {
       changes = λ text e. same ∙ rw (← e) (sym (changes_arrived ps text));
+      step = ap step same ∙ step_arrived ps n;
       text = λ text e. ap (λ d. applied d text) same ∙ rw (← e) (text_arrived ps text);
       trails = λ text e. ap (λ v. trails_in v (length (map (λ (u : Marked). u.0) (marked_text ps text)))) ways_same ∙ rw (← e) (ways_arrived ps text);
     }

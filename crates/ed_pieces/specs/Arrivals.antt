@@ -18,7 +18,7 @@ AllWithin n pieces = All (λ p. p.start + p.len ≤ n) pieces
 abbrev pub units_put_in : List Component → ℕ
 units_put_in cs = sum_by (λ c. length c.text) cs
 
--- The text is short, and each component ends within it. As changes they are in normal form, and put in a number of units that is no problem.
+-- The text is short, and each component ends within it. As changes they are in normal form, and together they put in at most 2^27 units.
 pub record IsArrival (old_len : ℕ) (components : List Component) : Type 0 where
   pub short : old_len ≤ 2 ^ 22
   pub within : All (λ c. c.start + c.old_len ≤ old_len) components

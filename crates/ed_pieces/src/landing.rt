@@ -1,6 +1,6 @@
 //! What arrives at a text that takes it: the changes, and the ways of what they put in.
 ghost use Rattle.std.specs.Prelude.{◌≡◌, ℕ, ◌+◌, ◌-◌, ◌<◌, ◌≤◌, ◌^◌, ◌++◌, List, length, map, sum_by, IfOk, OnOk};
-ghost use Rattle.ed_base.specs.ChangeList.{applied, change_list};
+ghost use Rattle.ed_base.specs.ChangeList.{applied, change_list, step};
 ghost use Rattle.ed_layers.specs.Pieces.{marked_text, step_of_pieces};
 ghost use Rattle.ed_pieces.specs.Arrivals.{AllWithin};
 ghost use Rattle.ed_pieces.specs.Runs.{text_of};
@@ -112,6 +112,7 @@ pub fn land(alloc: Global, len: u32, pieces: &[Piece]) -> Result<Landing, OutOfM
     requires within { AllWithin len pieces.now }
     requires put_in { sum_by (λ p. length p.text) pieces.now ≤ 2 ^ 27 }
     ensures changes { IfOk result (λ l. (text : List ℕ) → length text ≡ len → l.changes ≡ change_list (step_of_pieces pieces.now (length text)) (map (λ u. u.0) (marked_text pieces.now text))) }
+    ensures step { IfOk result (λ l. step l.changes ≡ step_of_pieces pieces.now len) }
     ensures text { IfOk result (λ l. (text : List ℕ) → length text ≡ len → applied l.changes text ≡ map (λ u. u.0) (marked_text pieces.now text)) }
     ensures trails { IfOk result (λ l. (text : List ℕ) → length text ≡ len → trails_in l.trails (length (map (λ u. u.0) (marked_text pieces.now text))) ≡ map (λ u. u.1) (marked_text pieces.now text)) }
 {

@@ -1,8 +1,8 @@
 //! The ways by which the units of a text came.
 ghost use Rattle.std.specs.Prelude.{◌≡◌, [], IfOk};
-ghost use Rattle.ed_pieces.specs.Trails.{AreRising};
+ghost use Rattle.ed_pieces.specs.Trails.{AreRising, trail_in};
 
-use ed_base::{OutOfMemory, SharedList, Span, Trail};
+use ed_base::{BufferNo, OutOfMemory, SharedList, Span, Trail};
 use std::alloc::Global;
 use std::marker::Model;
 
@@ -61,6 +61,22 @@ impl Trails {
         ensures rising { AreRising 0 self.now }
     {
         self.runs.as_slice()
+    }
+
+    /// The way of the unit at a place, by a binary search; empty where the place is in no run.
+    pub fn at(&self, place: u32) -> &[(BufferNo, u32)]
+        ensures { result.now ≡ trail_in self.now place }
+    {
+        let runs = self.runs.as_slice();
+        let begun = runs.partition_point(|run| run.span.start <= place);
+        if begun == 0 {
+            return &[];
+        }
+        let run = &runs[begun - 1];
+        if place - run.span.start < run.span.len {
+            return run.trail.as_slice();
+        }
+        &[]
     }
 
     /// A further holder of the same runs.
