@@ -21,10 +21,10 @@ no_fault : {X : Type 0} (o : Option BaseFault) (r : X) → Answers o (Ok r) → 
 no_fault None r h = refl
 no_fault (Some f) r h = absurd h
 
-which_fault : {X : Type 0} (o : Option BaseFault) (e : BaseFault) → Answers {X = X} o (Err e) → (e ≡ BaseFault.OutOfMemory) ⊎ (o ≡ Some e)
-which_fault None e h = inl h
-which_fault (Some f) e (inl same) = inr (ap Some (sym same))
-which_fault (Some f) e (inr memory) = inl memory
+which_fault : (X : Type 0) (o : Option BaseFault) (e : BaseFault) → Answers {X = X} o (Err e) → (e ≡ BaseFault.OutOfMemory) ⊎ (o ≡ Some e)
+which_fault X None e h = inl h
+which_fault X (Some f) e (inl same) = inr (ap Some (sym same))
+which_fault X (Some f) e (inr memory) = inl memory
 
 module _ (hooks : HookTable) (hs : List Held) (ms : List Move) (b : ℕ) (ps : List Piece) where
   -- what is known of the buffers stays
@@ -48,7 +48,7 @@ module _ (hooks : HookTable) (hs : List Held) (ms : List Move) (b : ℕ) (ps : L
   landed_ok (Held.Projection p turns) new st ms' h is = absurd h
 
   pub landed_err : (old new : Held) (e : BaseFault) (ms' : List Move) → HasLanded hooks old new ps (Err e) → ms' ≡ ms → HasLandedAmong hooks hs (slice_set hs b new) ms ms' b old ps (Err e)
-  landed_err (Held.Base x) new e ms' h is = elim (which_fault {X = NextVersion} (fault_of hooks x (changes_left ps (text_now x.chain.versions))) e h.2.fault) [
+  landed_err (Held.Base x) new e ms' h is = elim (which_fault NextVersion (fault_of hooks x (changes_left ps (text_now x.chain.versions))) e h.2.fault) [
     | inl memory ↦ inl memory
     | inr fault ↦ inr (fault, is)
   ]
