@@ -1,2 +1,4 @@
 pub mod OneBase
 pub mod LandMore
+pub mod OneMore
+pub mod Visits

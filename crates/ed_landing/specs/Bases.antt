@@ -1,12 +1,14 @@
 -- A base on which pieces land, among the buffers that are held.
-use Rattle.std.specs.Prelude.{◌≡◌, ◌⊎◌, ℕ, Bool, not, ◌&&◌, List, [], ◌∷◌, ◌++◌, length, nat_eq, slice_set, Result, Ok, Err, Some, None}
+use Rattle.std.specs.Prelude.{◌≡◌, ◌⊎◌, ℕ, Bool, not, ◌&&◌, List, [], ◌∷◌, ◌++◌, length, nat_eq, slice_set, Result, Ok, Err, Option, Some, None, unwrap_or}
 use Rattle.ed_base.specs.declared.Piece.{Piece}
+use Rattle.ed_base.specs.declared.Refusal.{Refusal}
 use Rattle.ed_base.specs.Hooks.{HookTable}
 use Rattle.ed_buffer.specs.Planning as buffers
 use Rattle.ed_buffer.specs.Planning.{Base, NextVersion, changes_left, fault_of}
 use Rattle.ed_buffer.specs.declared.BaseFault.{BaseFault}
 use Rattle.ed_layers.specs.Records.{is_carrier}
 use Rattle.ed_version.specs.Chain.{text_now}
+use Rattle.ed_climb.specs.declared.fault.PlanFault.{PlanFault}
 use Rattle.ed_held.specs.declared.held.Held.{Held}
 use Rattle.ed_held.specs.declared.moves.Move.{Move}
 use Rattle.ed_held.specs.declared.moves.Planned.{Planned}
@@ -35,3 +37,9 @@ abbrev pub HasLandedAmong : HookTable → List Held → List Held → List Move 
 HasLandedAmong hooks hs hs' ms ms' b (Held.Base x) ps (Ok r) = (fault_of hooks x (changes_left ps (text_now x.chain.versions)) ≡ None) × IsLanded hs hs' ms ms' b x ps
 HasLandedAmong hooks hs hs' ms ms' b (Held.Base x) ps (Err e) = (e ≡ BaseFault.OutOfMemory) ⊎ ((fault_of hooks x (changes_left ps (text_now x.chain.versions)) ≡ Some e) × (ms' ≡ ms))
 HasLandedAmong hooks hs hs' ms ms' b (Held.Projection p turns) ps r = ⊥
+
+-- what a fault of a base comes to, where a text may be too long already
+abbrev pub after_fault : ℕ → Option ℕ → BaseFault → Result (Option ℕ) PlanFault
+after_fault b long (BaseFault.ReadOnly region) = Err (PlanFault.Refused (Refusal.ReadOnly b region))
+after_fault b long (BaseFault.Units n) = Ok (Some (unwrap_or long n))
+after_fault b long BaseFault.OutOfMemory = Err PlanFault.OutOfMemory

@@ -67,11 +67,15 @@ pub record IsFirstLong (s : Stock) (pending : List (ℕ × Piece)) (k n : ℕ) :
   pub long : 2 ^ 22 < n
   pub earlier : (c : ℕ) → c < b → is_reached s pending c ≡ true → len_left s pending c ≤ 2 ^ 22
 
+-- how it stands with the first k buffers: all have landed, or one is too long
+abbrev pub Going : List Held → List (List ℕ) → List (ℕ × Piece) → ℕ → List Held → List Move → Option ℕ → Type 0
+Going hs graph pending k hs' ms long = MatchOption long (HaveLanded hs graph pending k hs' ms) (IsFirstLong (stock hs) pending k)
+
 -- so far, where no region denied anything
 pub record SoFar (hooks : HookTable) (hs : List Held) (graph : List (List ℕ)) (pending : List (ℕ × Piece)) (k : ℕ) (hs' : List Held) (ms : List Move) (long : Option ℕ) : Type 0 where
   pub same : map known hs' ≡ map known hs
   pub allowed : denied_in hooks (stock hs) pending (reached_below (stock hs) pending k) ≡ None
-  pub going : MatchOption long (HaveLanded hs graph pending k hs' ms) (IsFirstLong (stock hs) pending k)
+  pub going : Going hs graph pending k hs' ms long
 
 -- why the group of the pieces isn't planned
 abbrev pub landing_fault : HookTable → Stock → List (ℕ × Piece) → Option Refusal

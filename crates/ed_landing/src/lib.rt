@@ -3,4 +3,5 @@
 #![tactic(auto)]
 
 mod bases;
+mod landings;
 
