@@ -2,3 +2,4 @@ pub mod OneBase
 pub mod LandMore
 pub mod OneMore
 pub mod Visits
+pub mod Ended

@@ -85,3 +85,7 @@ landing_fault hooks s pending = first_some (denial hooks s pending ∷ first_som
 abbrev pub GoesOn : HookTable → List Held → List (List ℕ) → List (ℕ × Piece) → ℕ → List Held → List Move → Result (Option ℕ) PlanFault → Type 0
 GoesOn hooks hs graph pending k hs' ms (Ok long) = SoFar hooks hs graph pending k hs' ms long
 GoesOn hooks hs graph pending k hs' ms (Err e) = Refuses {X = Unit {0}} (landing_fault hooks (stock hs) pending) (Err e)
+
+-- no region denied anything, and all bases that pieces reach have landed
+abbrev pub AllLanded : HookTable → List Held → List (List ℕ) → List (ℕ × Piece) → List Held → List Move → Type 0
+AllLanded hooks hs graph pending hs' ms = (denial hooks (stock hs) pending ≡ None) × HaveLanded hs graph pending (count (stock hs)) hs' ms
