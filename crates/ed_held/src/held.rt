@@ -1,5 +1,5 @@
 //! A buffer of any kind.
-ghost use Rattle.std.specs.Prelude.{◌≡◌, ◌&&◌, ℕ, ◌+◌, ◌-◌, ◌<◌, ◌≤◌, ◌^◌, length, map, not, nat_eq, true, false, Some, IfOk, OnOk, OnErr, slice_get, slice_range};
+ghost use Rattle.std.specs.Prelude.{◌≡◌, ◌&&◌, ℕ, ◌+◌, ◌-◌, ◌<◌, ◌≤◌, ◌^◌, length, map, not, nat_eq, true, false, Some, IfOk, IfSome, OnOk, OnErr, is_some, option_map, slice_get, slice_range};
 ghost use Rattle.std.specs.List.{list_any};
 ghost use Rattle.ed_base.specs.Denial.{denied_at};
 ghost use Rattle.ed_base.specs.Numbers.{places};
@@ -19,6 +19,7 @@ use ed_base::{
 };
 use ed_buffer::Base;
 use ed_callbacks::Hooks;
+use ed_members::Members;
 use ed_project::Projection;
 use ed_readonly::RegionFault;
 use ed_text::DocText;
@@ -239,6 +240,27 @@ impl Held {
         match self {
             Held::Base(_) => false,
             Held::Projection { turns, .. } => *turns < u32::MAX,
+        }
+    }
+
+    /// The members of the current version of a projection. A base has none.
+    pub fn members(&self) -> Option<&Members>
+        ensures carrier { is_some result ≡ is_carrier (last_of (known self.now).buffer) }
+        ensures members { IfSome result (λ m. m.now ≡ members_of (last_of (known self.now).buffer)) }
+    {
+        match self {
+            Held::Base(_) => None,
+            Held::Projection { projection, .. } => Some(projection.members(projection.now())),
+        }
+    }
+
+    /// The name of its resolver, if it has one.
+    pub fn resolver(&self) -> Option<&Name>
+        ensures { option_map (λ n. n.now) result ≡ (known self.now).buffer.resolver }
+    {
+        match self {
+            Held::Base(_) => None,
+            Held::Projection { projection, .. } => projection.resolver().as_ref(),
         }
     }
 }

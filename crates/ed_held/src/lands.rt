@@ -14,7 +14,11 @@ use ed_callbacks::Hooks;
 use std::alloc::Global;
 
 /// A change as a piece that came through no carrier.
-fn piece_of(alloc: Global, change: &Change) -> Result<Piece, OutOfMemory>
+///
+/// # Errors
+///
+/// Memory was refused.
+pub fn piece_of(alloc: Global, change: &Change) -> Result<Piece, OutOfMemory>
     ensures { IfOk result (λ p. p ≡ own_piece change.now) }
 {
     let mut text = Units::new(alloc);

@@ -1,0 +1,4 @@
+pub mod Edits
+pub mod InBoxes
+pub mod Refusals
+pub mod Sends
