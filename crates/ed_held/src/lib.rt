@@ -10,6 +10,6 @@ mod respans;
 
 pub use advances::{planned, sources_of};
 pub use held::Held;
-pub use lands::{landing, piece_of};
+pub use lands::landing;
 pub use moves::{Move, Planned};
 pub use respans::{members_with, respan};

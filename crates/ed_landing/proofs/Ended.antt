@@ -1,6 +1,7 @@
 -- Once all buffers have been looked at: what a text that would be too long comes to, and how the way up begins.
-use Rattle.std.proofs.Common.{◌≡◌, ℕ, suc, ◌+◌, ◌<◌, ◌≤◌, ◌^◌, true, false, List, [], ◌∷◌, ◌++◌, length, map, fold, Option, Some, None, Err, refl, sym, ap, ◌∙◌, subst, inl, inr, arith}
-use Rattle.std.specs.Prelude.{slice_get, MatchOption}
+use Rattle.std.proofs.Common.{◌≡◌, ◌≢◌, ℕ, suc, ◌+◌, ◌<◌, ◌≤◌, ◌^◌, true, false, List, [], ◌∷◌, ◌++◌, length, map, fold, Option, Some, None, Ok, Err, Result, refl, sym, ap, ◌∙◌, subst, inl, inr, arith}
+use Rattle.std.specs.Prelude.{slice_get, MatchOption, MatchResult}
+use Rattle.std.specs.Result.{IsErr, IsErrAnd}
 use Rattle.std.specs.List.{AllByRecursion as Each}
 use Rattle.std.proofs.lemmas.Bool.{cases_Bool, cases_lt}
 use Rattle.std.proofs.lemmas.List.{length-map}
@@ -34,7 +35,8 @@ use Rattle.ed_climb.specs.Begins.{Begins, way}
 use Rattle.ed_climb.specs.Refusals.{Refuses}
 use Rattle.ed_climb.specs.Route.{AllKeepTheirs, Climbs, KeepTheirs}
 use Rattle.ed_climb.specs.declared.fault.PlanFault.{PlanFault}
-use Rattle.ed_landing.specs.Landings.{AllLanded, HaveLanded, IsFirstLong, SoFar, StandOn, landing_fault, len_left}
+use Rattle.ed_landing.specs.Landings.{AllLanded, HaveArrived, HaveLanded, IsFirstLong, SoFar, StandOn, landing_fault, len_left}
+use Rattle.ed_landing.proofs.LandMore.{none_yet}
 
 module _ (hooks : HookTable) (hs : List Held) (graph : List (List ℕ)) (on : StandOn hs graph) (pending : List (ℕ × Piece)) (hs' : List Held) (ms : List Move) where
   abbrev s : Stock
@@ -120,3 +122,23 @@ module _ (hooks : HookTable) (hs : List Held) (graph : List (List ℕ)) (on : St
           let there : b < count s = (each_behind (λ c. c < count s) passed (b ∷ rest) (subst (Each (λ c. c < count s)) split (all_there s graph first start))).0 in
           let both = advances_along hooks s (ready_of s graph on.settled on.levelled on.as_long on.names) own plain accepted none_given passed rest b (sym order_is ∙ split) there members sources is in
           subst (λ (z : Rising). KeepTheirs b (step_in (fold (risen_at none_given) z passed).moves) members) (sym (h.landed ∙ ap (λ ps. landed_below s ps (count s)) sent)) (record { inside = both.0; order = both.1 })
+
+-- ---- the loop
+
+pub none_so_far : (hooks : HookTable) (hs : List Held) (graph : List (List ℕ)) (on : StandOn hs graph) (pending : List (ℕ × Piece)) (ms : List Move) → ms ≡ [] → SoFar hooks hs graph pending 0 hs ms None
+none_so_far hooks hs graph on pending ms none = subst (λ ns. SoFar hooks hs graph pending 0 hs ns None) (sym none) (record { same = refl; allowed = refl; going = none_yet hs graph on pending })
+
+-- all have been looked at
+pub all_seen : (hooks : HookTable) (hs : List Held) (graph : List (List ℕ)) (pending : List (ℕ × Piece)) (boxes : List (List Piece)) → HaveArrived (stock hs) pending boxes → (index n : ℕ) → n ≡ length boxes → index ≤ n → n ≤ index → (hs' : List Held) (ms : List Move) (long : Option ℕ)
+    → SoFar hooks hs graph pending index hs' ms long → SoFar hooks hs graph pending (count (stock hs)) hs' ms long
+all_seen hooks hs graph pending boxes arrived index n long_is low high hs' ms long so_far =
+    subst (λ k. SoFar hooks hs graph pending k hs' ms long) (let e : length boxes ≡ count (stock hs) = arrived.each in omega (arith, long_is, e, low, high)) so_far
+
+-- a refusal that is handed on
+pub handed : (X : Type 0) (P : X → Type 0) (o : Option Refusal) (result : Result X PlanFault) (e : PlanFault) → IsErr result × IsErrAnd result (λ f. f ≡ e) → Refuses {X = Unit {0}} o (Err e) → MatchResult result P (λ f. Refuses {X = Unit {0}} o (Err f))
+handed X P o (Ok x) e h r = absurd h.1
+handed X P o (Err f) e h r = subst (λ g. Refuses {X = Unit {0}} o (Err g)) (sym h.1) r
+
+pub not_some : (o : Option ℕ) → ((n : ℕ) → o ≢ Some n) → o ≡ None
+not_some None other = refl
+not_some (Some n) other = absurd (other n refl)

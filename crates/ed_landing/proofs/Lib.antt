@@ -2,4 +2,5 @@ pub mod OneBase
 pub mod LandMore
 pub mod OneMore
 pub mod Visits
+pub mod Boxed
 pub mod Ended

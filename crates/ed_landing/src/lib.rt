@@ -3,5 +3,9 @@
 #![tactic(auto)]
 
 mod bases;
+mod edits;
 mod landings;
+
+pub use ed_descent::BufferEdit;
+pub use edits::begun;
 
