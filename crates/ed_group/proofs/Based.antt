@@ -1,34 +1,28 @@
 -- A stock with a new base.
-use Rattle.std.proofs.Common.{◌≡◌, ℕ, ◌+◌, ◌≤◌, List, [], ◌∷◌, ◌++◌, length, map, Option, Some, None, refl, sym, ◌∙◌, ap, subst, inl, inr, arith}
-use Rattle.std.specs.Prelude.{Ok, Err, nat_lt, unwrap_or}
-use Rattle.std.proofs.lemmas.Bool.{cases_Bool, ltb-false}
+use Rattle.std.proofs.Common.{◌≡◌, ℕ, ◌+◌, List, [], ◌∷◌, ◌++◌, length, map, Option, Some, None, refl, sym, ◌∙◌, ap, subst, arith}
+use Rattle.std.specs.Prelude.{unwrap_or}
 use Rattle.std.proofs.lemmas.List.{length-map}
-use Rattle.std.proofs.lemmas.List.FromFn.{length-range_with_len}
 use Rattle.ed_base.specs.declared.Refusal.{Refusal}
-use Rattle.ed_base.specs.declared.refusal.Which.{Which}
-use Rattle.ed_base.specs.Numbers.{first_some, places}
+use Rattle.ed_base.specs.Numbers.{first_some}
 use Rattle.ed_base.specs.ChangeList.{ChangeList}
 use Rattle.ed_buffer.specs.Planning.{Base}
 use Rattle.ed_layers.specs.Records.{Record, base}
 use Rattle.ed_stock.specs.Limits.{inserted, versions, placements, stock_limits}
-use Rattle.ed_stock.specs.Stock.{Stock, buffer, count, now, record_at, sources_now, text_at}
+use Rattle.ed_stock.specs.Stock.{Stock, buffer, now, record_at, text_at}
 use Rattle.ed_readonly.specs.LiveRegions.{LiveRegions}
 use Rattle.ed_version.specs.Chain.{opening}
 use Rattle.ed_version.specs.declared.Version.{Version}
 use Rattle.ed_group.specs.Answers.{base_fault, with_base}
-use Rattle.ed_climb.specs.Refusals.{Refuses}
 use Rattle.ed_climb.specs.declared.counts.Counts.{Counts}
-use Rattle.ed_climb.specs.declared.fault.PlanFault.{PlanFault}
 use Rattle.ed_held.specs.declared.held.Held.{Held}
 use Rattle.ed_climb.specs.Kept.{IsKept}
-use Rattle.ed_climb.specs.Limited.{new_limit, passed}
+use Rattle.ed_climb.specs.Limited.{new_limit}
 use Rattle.ed_held.specs.Seen.{Known, base_record, known, stock, stock_of}
-use Rattle.ed_climb.proofs.KeptNumbers.{count_len, graph_len, few}
+use Rattle.ed_climb.proofs.KeptNumbers.{graph_len}
 use Rattle.ed_risen.proofs.Counting.{inserted_new_base, new_buffer, placements_new, versions_new}
 use Rattle.ed_risen.proofs.Growth.{grown_last, grown_now, missing}
 use Rattle.ed_risen.proofs.Lists.{get_past}
 use Rattle.ed_group.proofs.NewBuffer.{new_grows, new_kept, new_stock}
-use Rattle.ed_risen.proofs.OneLimit.{each_none}
 use Rattle.ed_group.proofs.NewLimits.{limits_new}
 use Rattle.ed_risen.proofs.Texts.{base_text}
 

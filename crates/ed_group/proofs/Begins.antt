@@ -1,7 +1,7 @@
 -- The beginning of a group that replaces members of a projection.
 use Rattle.std.proofs.Common.{◌≡◌, ◌≢◌, ℕ, zero, suc, ◌+◌, ◌-◌, ◌<◌, ◌≤◌, ◌^◌, true, false, inl, inr, List, [], ◌∷◌, ◌++◌, length, map, Option, Some, None, refl, sym, ap, ◌∙◌, subst, arith, append_assoc, length-append}
 use Rattle.std.specs.Prelude.{All, Result, Ok, Err, IsErr, IsErrAnd, MatchResult, take, drop, slice_get, slice_set, unwrap_or, if◌then◌else◌}
-use Rattle.std.proofs.lemmas.Bool.{cases_lt, le-ltb, lt-ltb, ltb-false}
+use Rattle.std.proofs.lemmas.Bool.{cases_lt, le-ltb, lt-ltb}
 use Rattle.std.proofs.lemmas.List.{length-map, length-drop, length-take-le}
 use Rattle.ed_base.specs.declared.Member.{Member}
 use Rattle.ed_base.specs.declared.OutOfMemory.{OutOfMemory}
@@ -10,13 +10,14 @@ use Rattle.ed_base.specs.declared.Which.{Which}
 use Rattle.ed_base.specs.Numbers.{first_some, is_among}
 use Rattle.ed_graph.specs.Standing.{IsLevelled, linked, sources_in as graph_sources}
 use Rattle.ed_layers.specs.CarrierStep.{stay_around}
+use Rattle.ed_layers.specs.Order.{mode_fault, overlap_fault}
 use Rattle.ed_layers.specs.Records.{base, is_carrier, members_len, members_of}
 use Rattle.ed_project.specs.Planning.{IsStep, added_in}
 use Rattle.ed_project.specs.Records.{Next, Projection, record_of, shown_now}
 use Rattle.ed_project.specs.Texts.{no_steps, text_in, text_over, versions_of}
 use Rattle.ed_stock.specs.Limits.{stock_limits}
 use Rattle.ed_stock.specs.Making.{sources_in, spans_replaced, spans_set}
-use Rattle.ed_stock.specs.Stock.{Stock, Buffer, count, now, record_now, sources_now, text_now}
+use Rattle.ed_stock.specs.Stock.{Buffer, count, now, record_now, sources_now, text_now}
 use Rattle.ed_stock.specs.Versions.{at_now}
 use Rattle.ed_version.specs.declared.Snapshot.{Snapshot}
 use Rattle.ed_group.specs.Answers.{LiesIn, members_now, spans_fault}
@@ -29,13 +30,12 @@ use Rattle.ed_climb.specs.Kept.{IsKept}
 use Rattle.ed_climb.specs.Limited.{passed}
 use Rattle.ed_held.specs.Seen.{known, seen, stock}
 use Rattle.ed_held.specs.Respanning.{CanRespan, HasRespanned, Shows, held_members}
-use Rattle.ed_group.specs.Spanning.{HasReshown, spans_first, spans_route}
+use Rattle.ed_group.specs.Spanning.{HasReshown}
 use Rattle.ed_climb.proofs.Advanced.{same_known}
 use Rattle.ed_held.proofs.KindLemmas.{base_last}
 use Rattle.ed_climb.proofs.KeptNumbers.{held_count, held_len, refuses_this}
 use Rattle.ed_risen.proofs.Lists.{among_itself, clash}
 use Rattle.ed_group.proofs.Respanned.{linked_here, linked_len, linked_other, shown_lies}
-use Rattle.ed_climb.proofs.Routes.{is_route}
 use Rattle.ed_climb.proofs.Snapshots.{held_buffer, held_record, snaps, snaps_versions}
 use Rattle.ed_group.proofs.Spanned.{spans_begin, spans_too_long}
 use Rattle.ed_risen.proofs.Limits.{few_buffers, texts_fit}
@@ -154,10 +154,11 @@ module _ (hs : List Held) (graph : List (List ℕ)) (counts : Counts) (kept : Is
 
       -- it begins
       pub has_begun : (g : List (List ℕ)) → g ≡ linked graph b (sources_in [] (spans_replaced (members_now (stock hs) b) first removed added)) → IsLevelled g → spans_fault (stock hs) b first removed added ≡ first_some (stock_limits (spans_set (stock hs) b first removed added).stock)
+          → overlap_fault (spans_replaced (members_now (stock hs) b) first removed added) ≡ None → mode_fault (λ c. length (text_now (stock hs) c)) (spans_replaced (members_now (stock hs) b) first removed added) ≡ None
           → (hs' : List Held) (h : Held) → slice_get hs b ≡ Some h → (ms : List Member) → ms ≡ spans_replaced (members_now (stock hs) b) first removed added → members_len ms ≤ 2 ^ 22
           → (ss : List Snapshot) → ss ≡ snaps (stock hs) (map (λ c. (c, now (stock hs) c)) (sources_in [] (spans_replaced (members_now (stock hs) b) first removed added)))
           → (n : Next) → HasReshown ss hs hs' b h first removed ms (Ok n) → HasBegunSpans hs hs' graph b first removed added (g, n)
-      has_begun g g_is levels limits hs' h is ms ms_is fits ss ss_is n planned = by (is_projection h is)
+      has_begun g g_is levels limits apart cover hs' h is ms ms_is fits ss ss_is n planned = by (is_projection h is)
         where
           by : (p : Projection) × (turns : ℕ) × (h ≡ Held.Projection p turns) → HasBegunSpans hs hs' graph b first removed added (g, n)
           by p =
@@ -178,5 +179,5 @@ module _ (hs : List Held) (graph : List (List ℕ)) (counts : Counts) (kept : Is
                     p.0 is_shown.0 p.1 held is_shown.1 is_shown.2.same n next.planned members_same
                     (next.versions ∙ ap versions_of ss_is ∙ snaps_versions (stock hs) named ∙ at_now_by sources)
                     (next.text ∙ ap (λ xs. text_over (text_in xs) n.members) ss_is ∙ ap (text_over (text_in (snaps (stock hs) named))) members_same)
-                    (stay_around first removed (length added)) step (subst (λ xs. members_len xs ≤ 2 ^ 22) ms_is fits);
+                    (stay_around first removed (length added)) step (subst (λ xs. members_len xs ≤ 2 ^ 22) ms_is fits) apart cover;
               }

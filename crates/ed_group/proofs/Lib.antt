@@ -1,15 +1,11 @@
 pub mod Empty
-pub mod Edited
 pub mod NewBuffer
 pub mod NewLimits
 pub mod Based
 pub mod Zoned
 pub mod Lasting
 pub mod Projected
-pub mod Begun
-pub mod Faulted
 pub mod Spanned
 pub mod Respanned
 pub mod Begins
-pub mod EditBegins
 pub mod SpansBegins

@@ -1,15 +1,13 @@
 -- A stock with one buffer more.
-use Rattle.std.proofs.Common.{◌≡◌, ◌≢◌, ℕ, zero, suc, ◌+◌, ◌<◌, ◌≤◌, List, [], ◌∷◌, ◌++◌, length, map, Option, Some, None, refl, sym, ◌∙◌, ap, subst, inl, inr, arith, length-append}
+use Rattle.std.proofs.Common.{◌≡◌, ◌≢◌, ℕ, zero, suc, ◌+◌, ◌<◌, List, [], ◌∷◌, ◌++◌, length, map, Option, Some, None, refl, sym, ◌∙◌, ap, subst, inl, inr, arith, length-append}
 use Rattle.std.specs.Prelude.{slice_get, unwrap_or}
 use Rattle.std.specs.List.{AllByRecursion as Each, range_with_len}
 use Rattle.std.proofs.lemmas.Bool.{cases_eq, cases_lt}
 use Rattle.std.proofs.lemmas.Option.{slice_get_within}
 use Rattle.std.proofs.lemmas.List.{length-map}
-use Rattle.ed_base.specs.declared.Member.{Member}
 use Rattle.ed_base.specs.Numbers.{first_some, places}
-use Rattle.ed_base.specs.Spans.{end_of}
 use Rattle.ed_layers.specs.Cells.{cells_within, text, vector}
-use Rattle.ed_layers.specs.Records.{Record, base, projection, elision, sources_of}
+use Rattle.ed_layers.specs.Records.{Record, base, sources_of}
 use Rattle.ed_stock.specs.Limits.{inserted, versions, placements, stock_limits}
 use Rattle.ed_stock.specs.Making.{with_new}
 use Rattle.ed_stock.specs.Stock.{Stock, Buffer, buffer, now, record_at, record_now, sources_now, text_now, text_at, count}
@@ -18,13 +16,14 @@ use Rattle.ed_risen.specs.Founded.{Founded}
 use Rattle.ed_risen.specs.Growing.{Grows, AreFounded}
 use Rattle.ed_climb.specs.Kept.{IsKept}
 use Rattle.ed_risen.specs.Laws.{HasOneVersionEach, OneVector}
-use Rattle.ed_risen.specs.Rising.{EndsIn, Inside, IsNow, IsSettled}
+use Rattle.ed_risen.specs.Rising.{Inside, IsNow, IsSettled}
 use Rattle.ed_held.specs.Seen.{Known, stock_of}
 use Rattle.ed_risen.proofs.Counting.{new_buffer}
 use Rattle.ed_risen.proofs.Settled.{current_one, record_there}
-use Rattle.ed_risen.proofs.FoundedLemmas.{each_weaker, each_version, founded_record, same_vector}
+use Rattle.ed_risen.proofs.FoundedLemmas.{each_weaker, founded_record, same_vector}
 use Rattle.ed_risen.proofs.Growth.{missing, push_here, push_old, grown_extends, grown_founded, grown_length, grown_now_other, grown_other, grown_record_now, grown_record_other, grown_text_now}
 use Rattle.ed_risen.proofs.Lists.{each_both, get_past, places_push}
+use Rattle.ed_risen.proofs.RisingLemmas.{Same, inside_same}
 use Rattle.ed_risen.proofs.Texts.{same_text}
 
 -- ---- lists
@@ -107,16 +106,14 @@ module _ (ks : List Known) (k : Known) (r : Record) (resolver : Option (List ℕ
     pub text_now_stays : (a : ℕ) → a < n → text_now t a ≡ text_now s a
     text_now_stays a h = grown_text_now s t n r new_grows settled.founded a (λ e. absurd (omega (arith, e))) (settled.some a (let e : count s ≡ n = count_is in omega arith))
 
-    ends_stay : (sources : List (ℕ × ℕ)) → Each (λ v. v.0 < n) sources → (m : Member) → EndsIn s sources m → EndsIn t sources m
-    ends_stay sources there (Member.Literal units) h = tt
-    ends_stay sources there (Member.Tracked source bounds mode) h =
-        let l : source < n = each_version (λ v. v.0 < n) sources source (now s source) there h.0 in
-        (h.0 ∙ ap Some (sym (grown_now_other s t n r new_grows source (λ e. absurd (omega (arith, e))))), subst (λ x. end_of bounds ≤ length x) (sym (text_now_stays source l)) h.1)
+    same_there : (v : ℕ × ℕ) → v.0 < n → Same s t v
+    same_there v l = record {
+      at = grown_now_other s t n r new_grows v.0 (let h : v.0 < n = l in λ e. absurd (omega (arith, e)));
+      text = text_now_stays v.0 l;
+    }
 
     inside_stays : (x : Record) → Each (λ v. v.0 < n) (sources_of x) → Inside s x → Inside t x
-    inside_stays (base units number) there h = tt
-    inside_stays (projection members sources) there h = each_weaker (EndsIn s sources) (EndsIn t sources) (ends_stay sources there) members h
-    inside_stays (elision flags source version) there h = h
+    inside_stays x there h = inside_same s t x (each_weaker (λ v. v.0 < n) (Same s t) same_there (sources_of x) there) h
 
     module _ (named : Each (Founded (record_at s) 8) (sources_of r)) (there : Each (λ v. v.0 < n) (sources_of r)) (current : Each (IsNow s) (sources_of r)) (inside : Inside s r) where
       new_founded : AreFounded t

@@ -1,23 +1,21 @@
 -- The limits of a stock with one buffer more.
-use Rattle.std.proofs.Common.{◌≡◌, ◌≢◌, ℕ, ◌+◌, ◌<◌, ◌^◌, Bool, true, false, List, [], ◌∷◌, ◌++◌, length, map, Option, Some, None, refl, sym, ◌∙◌, ap, inl, inr, arith}
-use Rattle.std.proofs.lemmas.Bool.{ltb-false, cases_eq, eqb-true, eq-eqb, ne_eqb}
-use Rattle.std.specs.Prelude.{find, nat_eq, nat_lt, option_map, if◌then◌else◌}
-use Rattle.std.specs.List.{AllByRecursion as Each}
+use Rattle.std.proofs.Common.{◌≡◌, ◌≢◌, ℕ, ◌+◌, ◌<◌, ◌^◌, true, List, [], ◌∷◌, ◌++◌, length, map, Option, None, sym, ◌∙◌, ap, arith}
+use Rattle.std.proofs.lemmas.Bool.{ltb-false}
+use Rattle.std.specs.Prelude.{nat_lt}
 use Rattle.std.proofs.lemmas.List.{length-map}
 use Rattle.ed_base.specs.declared.refusal.Refusal.{Refusal}
 use Rattle.ed_base.specs.declared.refusal.Which.{Which}
 use Rattle.ed_base.specs.Numbers.{first_some, is_among, or_else}
-use Rattle.ed_graph.proofs.Fuel.{within_rounds}
 use Rattle.ed_layers.specs.Records.{Record, members_of}
 use Rattle.ed_stock.specs.Limits.{inserted, versions, placements, some_over, stock_limits}
-use Rattle.ed_stock.specs.Stock.{Stock, count, graph_order, record_now, sources_now, text_now}
+use Rattle.ed_stock.specs.Stock.{Stock, count, graph_order, record_now, text_now}
 use Rattle.ed_climb.specs.declared.counts.Counts.{Counts}
 use Rattle.ed_climb.specs.Limited.{new_limit, passed}
 use Rattle.ed_risen.specs.Rising.{IsSettled}
 use Rattle.ed_held.specs.Seen.{Known, stock_of}
 use Rattle.ed_risen.proofs.Counting.{new_buffer}
 use Rattle.ed_risen.proofs.Growth.{grown_record_now, grown_record_other}
-use Rattle.ed_risen.proofs.Order.{order_all, order_comes, in_order, of_order}
+use Rattle.ed_risen.proofs.Order.{in_order, of_order}
 use Rattle.ed_risen.proofs.Lists.{or_else_none}
 use Rattle.ed_group.proofs.NewBuffer.{count_more, new_grows, text_now_stays}
 use Rattle.ed_risen.proofs.OneLimit.{each_none, none_of, none_past, only_over}

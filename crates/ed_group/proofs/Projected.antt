@@ -70,6 +70,11 @@ pub refuses_memory : (X : Type 0) (o : Option Refusal) → Refuses {X = X} o (Er
 refuses_memory X None = refl
 refuses_memory X (Some r) = inr refl
 
+-- where neither refuses
+pub both_none : (a b : Option Refusal) → or_else a b ≡ None → (a ≡ None) × (b ≡ None)
+both_none None b h = (refl, h)
+both_none (Some r) b h = absurd (let e : Some r ≡ None = h in cc)
+
 -- ---- heights
 
 module _ (s : Stock) (g : List (List ℕ)) (n : ℕ) (levelled : IsLevelled g) (settled : IsSettled s) (n_is : count s ≡ n)
@@ -107,7 +112,7 @@ firsts : (f : ℕ → ℕ) (xs : List ℕ) → map (λ (v : ℕ × ℕ). v.0) (m
 firsts f [] = refl
 firsts f (x ∷ xs) = ap (λ rest. x ∷ rest) (firsts f xs)
 
-module _ (ks : List Known) (graph : List (List ℕ)) (counts : Counts) (kept : IsKept ks graph counts) (ms : List Member) (lies : Each (LiesIn (stock_of ks)) ms) where
+module _ (ks : List Known) (graph : List (List ℕ)) (counts : Counts) (kept : IsKept ks graph counts) (ms : List Member) (lies : Each (LiesIn (stock_of ks)) ms) (resolver : Option (List ℕ)) where
   abbrev s : Stock
   s = stock_of ks
 
@@ -127,7 +132,7 @@ module _ (ks : List Known) (graph : List (List ℕ)) (counts : Counts) (kept : I
   units = text_over (text_in (snaps s named)) ms
 
   abbrev pub shown_new : Known
-  shown_new = record { number = n; buffer = new_buffer r None; texts = units ∷ [] }
+  shown_new = record { number = n; buffer = new_buffer r resolver; texts = units ∷ [] }
 
   abbrev t : Stock
   t = stock_of (ks ++ shown_new ∷ [])
@@ -164,8 +169,8 @@ module _ (ks : List Known) (graph : List (List ℕ)) (counts : Counts) (kept : I
   pub units_len : length units ≡ members_len ms
   units_len = length_text_over (text_in (snaps s named)) ms (each_weaker (EndsIn s named) (Fits (text_in (snaps s named))) fits_by ms all_inside)
 
-  stock_is : t ≡ with_projection s ms
-  stock_is = new_stock ks shown_new r None refl
+  stock_is : t ≡ with_projection s ms resolver
+  stock_is = new_stock ks shown_new r resolver refl
 
   -- ---- the graph
 
@@ -206,7 +211,7 @@ module _ (ks : List Known) (graph : List (List ℕ)) (counts : Counts) (kept : I
 
   module _ (levelled : IsLevelled linked_to) where
     old_named : (b : ℕ) → b < n → Each (λ (v : ℕ × ℕ). v.0 < n) (sources_of (record_now s b))
-    old_named b h = named_there ks shown_new r None refl kept.settled b h
+    old_named b h = named_there ks shown_new r resolver refl kept.settled b h
 
     -- what the new buffer stands on is low
     lower_new : Each (λ c. height_in linked_to c < height_in linked_to n) sources
@@ -230,11 +235,11 @@ module _ (ks : List Known) (graph : List (List ℕ)) (counts : Counts) (kept : I
     vs_there = there_by sources sources_there
 
     grows : Grows s t n r
-    grows = new_grows ks shown_new r None refl
+    grows = new_grows ks shown_new r resolver refl
 
     snaps_by : (vs : List (ℕ × ℕ)) → Each (λ (v : ℕ × ℕ). v.0 < n) vs → snaps s vs ≡ snaps t vs
     snaps_by [] h = refl
-    snaps_by (v ∷ vs) h = rw (newest_same s t v.0 (grown_now_other s t n r grows v.0 (let l : v.0 < n = h.0 in λ e. absurd (omega (arith, e)))) (text_now_stays ks shown_new r None refl kept.settled v.0 h.0), snaps_by vs h.1) refl
+    snaps_by (v ∷ vs) h = rw (newest_same s t v.0 (grown_now_other s t n r grows v.0 (let l : v.0 < n = h.0 in λ e. absurd (omega (arith, e)))) (text_now_stays ks shown_new r resolver refl kept.settled v.0 h.0), snaps_by vs h.1) refl
 
     at_now_by : (xs : List ℕ) → Each (λ b. b < n) xs → at_now t (map (λ b. (b, now s b)) xs) ≡ map (λ b. (b, now s b)) xs
     at_now_by [] h = refl
@@ -242,30 +247,30 @@ module _ (ks : List Known) (graph : List (List ℕ)) (counts : Counts) (kept : I
 
     pub text_first : text_at t n 0 ≡ units
     text_first =
-        projection_text (record_at t) n 0 ms named (new_record ks shown_new r None refl) (each_weaker (Founded (record_at s) 8) (Founded (record_at t) 8) (founded_in (record_at s) (record_at t) (grown_extends s t n r grows) 8) named all_founded)
+        projection_text (record_at t) n 0 ms named (new_record ks shown_new r resolver refl) (each_weaker (Founded (record_at s) 8) (Founded (record_at t) 8) (founded_in (record_at s) (record_at t) (grown_extends s t n r grows) 8) named all_founded)
         ∙ ap (λ f. text_over f ms) (ap (named_text (record_at t)) (sym (at_now_by sources sources_there)) ∙ sym (snaps_text t named) ∙ ap text_in (sym (snaps_by named vs_there)))
 
     abbrev pub counts_with : Counts
     counts_with = record { inserted = counts.inserted + 0; versions = counts.versions + 1; placements = counts.placements + count_by is_tracked ms }
 
     inserted_is : counts_with.inserted ≡ inserted t
-    inserted_is = let a : inserted t ≡ inserted (with_projection s ms) = ap inserted stock_is in let b : inserted (with_projection s ms) ≡ inserted s = inserted_new_projection s ms named None in let d : counts.inserted ≡ inserted s = kept.inserted in omega arith
+    inserted_is = let a : inserted t ≡ inserted (with_projection s ms resolver) = ap inserted stock_is in let b : inserted (with_projection s ms resolver) ≡ inserted s = inserted_new_projection s ms named resolver in let d : counts.inserted ≡ inserted s = kept.inserted in omega arith
 
     versions_is : counts_with.versions ≡ versions t
-    versions_is = let a : versions t ≡ versions (with_projection s ms) = ap versions stock_is in let b : versions (with_projection s ms) ≡ versions s + 1 = versions_new s r None in let d : counts.versions ≡ versions s = kept.versions in omega arith
+    versions_is = let a : versions t ≡ versions (with_projection s ms resolver) = ap versions stock_is in let b : versions (with_projection s ms resolver) ≡ versions s + 1 = versions_new s r resolver in let d : counts.versions ≡ versions s = kept.versions in omega arith
 
     placements_is : counts_with.placements ≡ placements t
-    placements_is = let a : placements t ≡ placements (with_projection s ms) = ap placements stock_is in let b : placements (with_projection s ms) ≡ placements s + count_by is_tracked ms = placements_new s r None in let d : counts.placements ≡ placements s = kept.placements in omega arith
+    placements_is = let a : placements t ≡ placements (with_projection s ms resolver) = ap placements stock_is in let b : placements (with_projection s ms resolver) ≡ placements s + count_by is_tracked ms = placements_new s r resolver in let d : counts.placements ≡ placements s = kept.placements in omega arith
 
-    pub limits_are : first_some (stock_limits (with_projection s ms)) ≡ new_limit (n + 1) (members_len ms) counts_with (length ms)
+    pub limits_are : first_some (stock_limits (with_projection s ms resolver)) ≡ new_limit (n + 1) (members_len ms) counts_with (length ms)
     limits_are =
         ap (λ x. first_some (stock_limits x)) (sym stock_is)
-        ∙ limits_new ks shown_new r None refl kept.settled kept.within counts_with inserted_is versions_is placements_is
-        ∙ ap (λ u. new_limit (n + 1) u counts_with (length ms)) (ap (λ v. length (text_at t n v)) (new_first ks shown_new r None refl) ∙ ap length text_first ∙ units_len)
+        ∙ limits_new ks shown_new r resolver refl kept.settled kept.within counts_with inserted_is versions_is placements_is
+        ∙ ap (λ u. new_limit (n + 1) u counts_with (length ms)) (ap (λ v. length (text_at t n v)) (new_first ks shown_new r resolver refl) ∙ ap length text_first ∙ units_len)
 
-    pub projection_kept : new_limit (n + 1) (members_len ms) counts_with (length ms) ≡ None → IsKept (ks ++ shown_new ∷ []) linked_to counts_with
-    projection_kept none =
-        new_kept ks shown_new r None refl kept.settled all_founded vs_there (current_by sources) all_inside graph linked_to counts counts_with kept refl units refl text_first (linked_is ∙ ap (λ xs. graph ++ xs ∷ []) (sym (firsts (now s) sources)))
+    pub projection_kept : overlap_fault ms ≡ None → mode_fault (len_now s) ms ≡ None → new_limit (n + 1) (members_len ms) counts_with (length ms) ≡ None → IsKept (ks ++ shown_new ∷ []) linked_to counts_with
+    projection_kept apart cover none =
+        new_kept ks shown_new r resolver refl kept.settled all_founded vs_there (current_by sources) (record { ends = all_inside; apart = apart; cover = cover }) graph linked_to counts counts_with kept refl units refl text_first (linked_is ∙ ap (λ xs. graph ++ xs ∷ []) (sym (firsts (now s) sources)))
         (ap (λ x. first_some (stock_limits x)) stock_is ∙ limits_are ∙ none) inserted_is versions_is placements_is
 
 -- ---- what is asked and answered, of buffers that are held
@@ -275,16 +280,16 @@ module _ (hs : List Held) (graph : List (List ℕ)) (counts : Counts) (kept : Is
   lies = each_of (LiesIn (stock hs)) ms inside
 
   abbrev pub sources_held : List ℕ
-  sources_held = sources (map known hs) graph counts kept ms lies
+  sources_held = sources (map known hs) graph counts kept ms lies None
 
   abbrev pub named_held : List (ℕ × ℕ)
-  named_held = named (map known hs) graph counts kept ms lies
+  named_held = named (map known hs) graph counts kept ms lies None
 
   abbrev pub linked_held : List (List ℕ)
-  linked_held = linked_to (map known hs) graph counts kept ms lies
+  linked_held = linked_to (map known hs) graph counts kept ms lies None
 
   there_all : Each (λ b. b < length (map known hs)) sources_held
-  there_all = sources_there (map known hs) graph counts kept ms lies
+  there_all = sources_there (map known hs) graph counts kept ms lies None
 
   pub sources_within : (xs : List ℕ) (n : ℕ) → xs ≡ sources_held → n ≡ length hs → All (λ b. b < n) xs
   sources_within xs n is n_is = subst (All (λ b. b < n)) (sym is) (subst (λ k. All (λ b. b < k) sources_held) (length-map hs known ∙ sym n_is) (all_of (λ b. b < length (map known hs)) sources_held there_all))
@@ -309,7 +314,7 @@ module _ (hs : List Held) (graph : List (List ℕ)) (counts : Counts) (kept : Is
   snaps_held xs ss is ss_is = ss_is ∙ ap (map (snapshot_now hs)) is ∙ snaps_of sources_held there_all
 
   pub have_all : (ss : List Snapshot) → ss ≡ snaps (stock hs) named_held → All (HasSource no_steps ss) ms
-  have_all ss is = subst (λ xs. All (HasSource no_steps xs) ms) (sym is) (all_of (HasSource no_steps (snaps (stock hs) named_held)) ms (each_weaker (EndsIn (stock hs) named_held) (HasSource no_steps (snaps (stock hs) named_held)) has ms (all_inside (map known hs) graph counts kept ms lies)))
+  have_all ss is = subst (λ xs. All (HasSource no_steps xs) ms) (sym is) (all_of (HasSource no_steps (snaps (stock hs) named_held)) ms (each_weaker (EndsIn (stock hs) named_held) (HasSource no_steps (snaps (stock hs) named_held)) has ms (all_inside (map known hs) graph counts kept ms lies None)))
     where
       has : (m : Member) → EndsIn (stock hs) named_held m → HasSource no_steps (snaps (stock hs) named_held) m
       has (Member.Literal u) h = tt
@@ -323,9 +328,9 @@ module _ (hs : List Held) (graph : List (List ℕ)) (counts : Counts) (kept : Is
   at_now_named [] = refl
   at_now_named (x ∷ xs) = ap (λ rest. (x, now (stock hs) x) ∷ rest) (at_now_named xs)
 
-  shown_is : (p : Projection) → p.buffer ≡ length hs → p.versions ≡ shown ms named_held (text_over (text_in (snaps (stock hs) named_held)) ms) ∷ [] → p.changes ≡ [] → p.resolver ≡ None → known (Held.Projection p 0) ≡ shown_new (map known hs) graph counts kept ms lies
-  shown_is p number_is versions_are changes_are resolver_is =
-      whole p.buffer (length (map known hs)) p.versions (shown ms named_held (text_over (text_in (snaps (stock hs) named_held)) ms) ∷ []) p.changes [] p.resolver None (number_is ∙ sym (length-map hs known)) versions_are changes_are resolver_is
+  shown_is : (resolver : Option (List ℕ)) (p : Projection) → p.buffer ≡ length hs → p.versions ≡ shown ms named_held (text_over (text_in (snaps (stock hs) named_held)) ms) ∷ [] → p.changes ≡ [] → p.resolver ≡ resolver → known (Held.Projection p 0) ≡ shown_new (map known hs) graph counts kept ms lies resolver
+  shown_is resolver p number_is versions_are changes_are resolver_is =
+      whole p.buffer (length (map known hs)) p.versions (shown ms named_held (text_over (text_in (snaps (stock hs) named_held)) ms) ∷ []) p.changes [] p.resolver resolver (number_is ∙ sym (length-map hs known)) versions_are changes_are resolver_is
     where
       whole : (a b : ℕ) (v w : List Shown) (c d : List ChangeList) (x y : Option (List ℕ)) → a ≡ b → v ≡ w → c ≡ d → x ≡ y →
           ◌≡◌ {A = Known} (record { number = a; buffer = record { records = map record_of v; changes = c; resolver = x; regions = []; regions_given = 0; turns = 0 }; texts = map (λ z. z.text) v })
@@ -338,55 +343,64 @@ module _ (hs : List Held) (graph : List (List ℕ)) (counts : Counts) (kept : Is
     agrees (Member.Tracked source bounds mode) h =
         sym (ap (λ xs. len_in xs source) (ls_is ∙ ap (map {B = ℕ × ℕ} (λ (x : Snapshot). (x.buffer, length x.text))) ss_is ∙ lengths_of sources_held) ∙ ap (λ o. unwrap_or o 0) (named_among (len_now (stock hs)) sources_held source h))
 
-    limits_held : Option Refusal
-    limits_held = first_some (stock_limits (with_projection (stock hs) ms))
+    same_modes : mode_fault (len_now (stock hs)) ms ≡ mode_fault (len_in ls) ms
+    same_modes = same_mode_fault (len_now (stock hs)) (len_in ls) ms (each_weaker (IsListed sources_held) (Agree (len_now (stock hs)) (len_in ls)) agrees ms (all_listed ms))
 
-    fault_parts : projection_fault (stock hs) ms ≡ or_else (first_fault (len_in ls) ms) (or_else (too_deep linked_held) (first_some (stock_limits (with_projection (stock hs) ms))))
+    -- members that may stand together, over their sources as they are
+    pub stand : (X : Type 0) (x : X) → Refuses (first_fault (len_in ls) ms) (Ok x) → (mode_fault (len_now (stock hs)) ms ≡ None) × (overlap_fault ms ≡ None)
+    stand X x apart =
+        let none : (mode_fault (len_in ls) ms ≡ None) × (overlap_fault ms ≡ None) = both_none (mode_fault (len_in ls) ms) (overlap_fault ms) (refused_none X (first_fault (len_in ls) ms) x apart) in
+        (same_modes ∙ none.0, none.1)
+
+    limits_held : Option Refusal
+    limits_held = first_some (stock_limits (with_projection (stock hs) ms None))
+
+    fault_parts : projection_fault (stock hs) ms ≡ or_else (first_fault (len_in ls) ms) (or_else (too_deep linked_held) (first_some (stock_limits (with_projection (stock hs) ms None))))
     fault_parts =
-        whole (mode_fault (len_now (stock hs)) ms) (mode_fault (len_in ls) ms) (overlap_fault ms) (depth (stock hs) (count (stock hs) + 1) (count (stock hs)) sources_held) (too_deep linked_held) (first_some (stock_limits (with_projection (stock hs) ms)))
-        (same_mode_fault (len_now (stock hs)) (len_in ls) ms (each_weaker (IsListed sources_held) (Agree (len_now (stock hs)) (len_in ls)) agrees ms (all_listed ms))) (depth_is (map known hs) graph counts kept ms lies)
+        whole (mode_fault (len_now (stock hs)) ms) (mode_fault (len_in ls) ms) (overlap_fault ms) (depth (stock hs) (count (stock hs) + 1) (count (stock hs)) sources_held) (too_deep linked_held) (first_some (stock_limits (with_projection (stock hs) ms None)))
+        same_modes (depth_is (map known hs) graph counts kept ms lies None)
       where
         whole : (a a' b d d' l : Option Refusal) → a ≡ a' → d ≡ d' → first_some (a ∷ b ∷ d ∷ l ∷ []) ≡ or_else (or_else a' b) (or_else d' l)
         whole a a' b d d' l e f = rw (e, f) (sym (or_else_assoc a' b (or_else d' l) ∙ ap (λ x. or_else a' (or_else b (or_else d' x))) (sym (or_else_none l))))
 
-    pub projection_stock : (p : Projection) → p.buffer ≡ length hs → p.versions ≡ shown ms (versions_of ss) (text_over (text_in ss) ms) ∷ [] → p.changes ≡ [] → p.resolver ≡ None → (hs' : List Held) → hs' ≡ hs ++ Held.Projection p 0 ∷ [] → stock hs' ≡ with_projection (stock hs) ms
-    projection_stock p number_is versions_are changes_are resolver_is hs' is =
+    pub projection_stock : (resolver : Option (List ℕ)) (p : Projection) → p.buffer ≡ length hs → p.versions ≡ shown ms (versions_of ss) (text_over (text_in ss) ms) ∷ [] → p.changes ≡ [] → p.resolver ≡ resolver → (hs' : List Held) → hs' ≡ hs ++ Held.Projection p 0 ∷ [] → stock hs' ≡ with_projection (stock hs) ms resolver
+    projection_stock resolver p number_is versions_are changes_are resolver_is hs' is =
         ap stock is ∙ ap stock_of (map_push known hs (Held.Projection p 0))
-        ∙ ap (λ k. stock_of (map known hs ++ k ∷ [])) (shown_is p number_is (versions_are ∙ ap (λ xs. shown ms (versions_of xs) (text_over (text_in xs) ms) ∷ []) ss_is ∙ ap (λ vs. shown ms vs (text_over (text_in (snaps (stock hs) named_held)) ms) ∷ []) (snaps_versions (stock hs) named_held ∙ at_now_named sources_held)) changes_are resolver_is)
-        ∙ stock_is (map known hs) graph counts kept ms lies
+        ∙ ap (λ k. stock_of (map known hs ++ k ∷ [])) (shown_is resolver p number_is (versions_are ∙ ap (λ xs. shown ms (versions_of xs) (text_over (text_in xs) ms) ∷ []) ss_is ∙ ap (λ vs. shown ms vs (text_over (text_in (snaps (stock hs) named_held)) ms) ∷ []) (snaps_versions (stock hs) named_held ∙ at_now_named sources_held)) changes_are resolver_is)
+        ∙ stock_is (map known hs) graph counts kept ms lies resolver
 
     pub fault_first : (X Y : Type 0) (e : PlanFault) → Refuses {X = X} (first_fault (len_in ls) ms) (Err e) → Refuses {X = Y} (projection_fault (stock hs) ms) (Err e)
-    fault_first X Y e h = subst (λ o. Refuses {X = Y} o (Err e)) (sym fault_parts) (refuses_first X Y (first_fault (len_in ls) ms) (or_else (too_deep linked_held) (first_some (stock_limits (with_projection (stock hs) ms)))) e h)
+    fault_first X Y e h = subst (λ o. Refuses {X = Y} o (Err e)) (sym fault_parts) (refuses_first X Y (first_fault (len_in ls) ms) (or_else (too_deep linked_held) (first_some (stock_limits (with_projection (stock hs) ms None)))) e h)
 
     module _ (X : Type 0) (x : X) (apart : Refuses (first_fault (len_in ls) ms) (Ok x)) where
-      rest_is : projection_fault (stock hs) ms ≡ or_else (too_deep linked_held) (first_some (stock_limits (with_projection (stock hs) ms)))
-      rest_is = fault_parts ∙ ap (λ o. or_else o (or_else (too_deep linked_held) (first_some (stock_limits (with_projection (stock hs) ms))))) (refused_none X (first_fault (len_in ls) ms) x apart)
+      rest_is : projection_fault (stock hs) ms ≡ or_else (too_deep linked_held) (first_some (stock_limits (with_projection (stock hs) ms None)))
+      rest_is = fault_parts ∙ ap (λ o. or_else o (or_else (too_deep linked_held) (first_some (stock_limits (with_projection (stock hs) ms None))))) (refused_none X (first_fault (len_in ls) ms) x apart)
 
       pub fault_second : (Z Y : Type 0) (e : PlanFault) → Refuses {X = Z} (too_deep linked_held) (Err e) → Refuses {X = Y} (projection_fault (stock hs) ms) (Err e)
-      fault_second Z Y e h = subst (λ o. Refuses {X = Y} o (Err e)) (sym rest_is) (refuses_first Z Y (too_deep linked_held) (first_some (stock_limits (with_projection (stock hs) ms))) e h)
+      fault_second Z Y e h = subst (λ o. Refuses {X = Y} o (Err e)) (sym rest_is) (refuses_first Z Y (too_deep linked_held) (first_some (stock_limits (with_projection (stock hs) ms None))) e h)
 
       module _ (Z : Type 0) (z : Z) (shallow_enough : Refuses (too_deep linked_held) (Ok z)) (g : List (List ℕ)) (g_is : g ≡ linked_held) (levelled : IsLevelled g) (m : ℕ) (m_is : m ≡ length hs)
           (tracked : ℕ) (tracked_is : tracked ≡ count_by is_tracked ms) (cs : Counts) (cs_is : cs ≡ record { inserted = counts.inserted + 0; versions = counts.versions + 1; placements = counts.placements + tracked }) where
         levelled_held : IsLevelled linked_held
         levelled_held = subst IsLevelled g_is levelled
 
-        cs_held : cs ≡ counts_with (map known hs) graph counts kept ms lies levelled_held
+        cs_held : cs ≡ counts_with (map known hs) graph counts kept ms lies None levelled_held
         cs_held = cs_is ∙ ap (λ (k : ℕ). record { inserted = counts.inserted + 0; versions = counts.versions + 1; placements = counts.placements + k }) tracked_is
 
-        same_limit : new_limit (m + 1) (members_len ms) cs (length ms) ≡ new_limit (length (map known hs) + 1) (members_len ms) (counts_with (map known hs) graph counts kept ms lies levelled_held) (length ms)
+        same_limit : new_limit (m + 1) (members_len ms) cs (length ms) ≡ new_limit (length (map known hs) + 1) (members_len ms) (counts_with (map known hs) graph counts kept ms lies None levelled_held) (length ms)
         same_limit = ap (λ k. new_limit (k + 1) (members_len ms) cs (length ms)) (m_is ∙ sym (length-map hs known)) ∙ ap (λ k. new_limit (length (map known hs) + 1) (members_len ms) k (length ms)) cs_held
 
         pub fault_third : (o : Option Refusal) → o ≡ new_limit (m + 1) (members_len ms) cs (length ms) → projection_fault (stock hs) ms ≡ o
         fault_third o is =
-            rest_is ∙ ap (λ p. or_else p (first_some (stock_limits (with_projection (stock hs) ms)))) (refused_none Z (too_deep linked_held) z shallow_enough)
-            ∙ limits_are (map known hs) graph counts kept ms lies levelled_held ∙ sym same_limit ∙ sym is
+            rest_is ∙ ap (λ p. or_else p (first_some (stock_limits (with_projection (stock hs) ms None)))) (refused_none Z (too_deep linked_held) z shallow_enough)
+            ∙ limits_are (map known hs) graph counts kept ms lies None levelled_held ∙ sym same_limit ∙ sym is
 
-        pub projection_put : new_limit (m + 1) (members_len ms) cs (length ms) ≡ None → (p : Projection) → p.buffer ≡ length hs → p.versions ≡ shown ms (versions_of ss) (text_over (text_in ss) ms) ∷ [] → p.changes ≡ [] → p.resolver ≡ None → IsKept (map known hs ++ known (Held.Projection p 0) ∷ []) g cs
-        projection_put none p number_is versions_are changes_are resolver_is =
-            subst (λ k. IsKept (map known hs ++ k ∷ []) g cs) (sym (shown_is p number_is (versions_are ∙ ap (λ xs. shown ms (versions_of xs) (text_over (text_in xs) ms) ∷ []) ss_is ∙ ap (λ vs. shown ms vs (text_over (text_in (snaps (stock hs) named_held)) ms) ∷ []) (snaps_versions (stock hs) named_held ∙ at_now_named sources_held)) changes_are resolver_is))
-            (subst (λ x. IsKept (map known hs ++ shown_new (map known hs) graph counts kept ms lies ∷ []) x cs) (sym g_is)
-            (subst (λ k. IsKept (map known hs ++ shown_new (map known hs) graph counts kept ms lies ∷ []) linked_held k) (sym cs_held)
-            (projection_kept (map known hs) graph counts kept ms lies levelled_held (sym same_limit ∙ none))))
+        pub projection_put : new_limit (m + 1) (members_len ms) cs (length ms) ≡ None → (resolver : Option (List ℕ)) (p : Projection) → p.buffer ≡ length hs → p.versions ≡ shown ms (versions_of ss) (text_over (text_in ss) ms) ∷ [] → p.changes ≡ [] → p.resolver ≡ resolver → IsKept (map known hs ++ known (Held.Projection p 0) ∷ []) g cs
+        projection_put none resolver p number_is versions_are changes_are resolver_is =
+            subst (λ k. IsKept (map known hs ++ k ∷ []) g cs) (sym (shown_is resolver p number_is (versions_are ∙ ap (λ xs. shown ms (versions_of xs) (text_over (text_in xs) ms) ∷ []) ss_is ∙ ap (λ vs. shown ms vs (text_over (text_in (snaps (stock hs) named_held)) ms) ∷ []) (snaps_versions (stock hs) named_held ∙ at_now_named sources_held)) changes_are resolver_is))
+            (subst (λ x. IsKept (map known hs ++ shown_new (map known hs) graph counts kept ms lies resolver ∷ []) x cs) (sym g_is)
+            (subst (λ k. IsKept (map known hs ++ shown_new (map known hs) graph counts kept ms lies resolver ∷ []) linked_held k) (sym cs_held)
+            (projection_kept (map known hs) graph counts kept ms lies resolver levelled_held (stand X x apart).1 (stand X x apart).0 (sym same_limit ∙ none))))
 
 -- ---- what calls hand on
 

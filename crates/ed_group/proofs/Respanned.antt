@@ -31,7 +31,7 @@ use Rattle.ed_risen.proofs.Settled.{all_of}
 use Rattle.ed_risen.proofs.FoundedLemmas.{each_version, each_weaker}
 use Rattle.ed_risen.proofs.Sources.{Agree, IsListed, OfSource, all_listed, same_mode_fault}
 use Rattle.ed_risen.proofs.Lists.{each_append, or_else_assoc, or_else_none, each_of}
-use Rattle.ed_group.proofs.Projected.{agrees, refused_none, refuses_first}
+use Rattle.ed_group.proofs.Projected.{agrees, both_none, refused_none, refuses_first}
 use Rattle.ed_climb.proofs.Routes.{sources_same}
 use Rattle.ed_climb.proofs.Snapshots.{snaps}
 
@@ -107,7 +107,7 @@ first_ends test (Member.Tracked source bounds mode ∷ xs) ys h = ap (λ o. if t
 
 inside_members : (s : Stock) (x : Record) → Inside s x → Each (EndsIn s (sources_of x)) (members_of x)
 inside_members s (base units reiterated) h = tt
-inside_members s (projection ms vs) h = h
+inside_members s (projection ms vs) h = h.ends
 inside_members s (elision flags source version) h = absurd h
 
 ends_of_source : (s : Stock) (P : ℕ → Type 0) (vs : List (ℕ × ℕ)) → Each (λ v. P v.0) vs → (m : Member) → EndsIn s vs m → OfSource P m
@@ -234,6 +234,16 @@ module _ (hs : List Held) (graph : List (List ℕ)) (counts : Counts) (kept : Is
     members_refused X Y e h = subst (λ o. Refuses {X = Y} o (Err e)) (sym parts) (refuses_first X Y (first_fault (len_in ls) shown) (or_else (standing_fault graph b (sources_in [] shown)) last_limit) e h)
 
     module _ (X : Type 0) (x : X) (apart : Refuses (first_fault (len_in ls) shown) (Ok x)) where
+      none_refuses : (mode_fault (len_in ls) shown ≡ None) × (overlap_fault shown ≡ None)
+      none_refuses = both_none (mode_fault (len_in ls) shown) (overlap_fault shown) (refused_none X (first_fault (len_in ls) shown) x apart)
+
+      -- they may stand together, over their sources as they are
+      pub shown_cover : mode_fault (len_now (stock hs)) shown ≡ None
+      shown_cover = mode_is ∙ none_refuses.0
+
+      pub shown_apart : overlap_fault shown ≡ None
+      shown_apart = none_refuses.1
+
       rest_is : spans_fault s b first removed added ≡ or_else (standing_fault graph b (sources_in [] shown)) last_limit
       rest_is = parts ∙ ap (λ o. or_else o (or_else (standing_fault graph b (sources_in [] shown)) last_limit)) (refused_none X (first_fault (len_in ls) shown) x apart)
 

@@ -1,8 +1,8 @@
 -- The start of the way of replaced spans: the projection has its version.
-use Rattle.std.proofs.Common.{◌≡◌, ◌≢◌, ℕ, zero, suc, ◌+◌, ◌-◌, ◌<◌, ◌≤◌, ◌^◌, Bool, true, false, ◌⊎◌, inl, inr, List, [], ◌∷◌, ◌++◌, length, map, Option, Some, None, refl, sym, ap, ◌∙◌, subst, arith, append_assoc, length-set}
-use Rattle.std.specs.Prelude.{filter, fold, max, slice_get, slice_set, unwrap_or, nat_eq, nat_lt, is_some, MatchOption, if◌then◌else◌}
+use Rattle.std.proofs.Common.{◌≡◌, ◌≢◌, ℕ, zero, suc, ◌+◌, ◌-◌, ◌<◌, ◌≤◌, ◌^◌, Bool, true, false, ◌⊎◌, inl, inr, List, [], ◌∷◌, ◌++◌, length, map, Option, Some, None, refl, sym, ap, ◌∙◌, subst, arith, length-set}
+use Rattle.std.specs.Prelude.{fold, max, slice_get, slice_set, unwrap_or, nat_eq, nat_lt, is_some, MatchOption, if◌then◌else◌}
 use Rattle.std.specs.Option.{option_map_or}
-use Rattle.std.specs.List.{AllByRecursion as Each, list_any, range_with_len}
+use Rattle.std.specs.List.{AllByRecursion as Each, list_any}
 use Rattle.std.proofs.lemmas.Bool.{cases_eq, eqb-true, eq-eqb, ne_eqb, lt-ltb, ltb-true}
 use Rattle.std.proofs.lemmas.List.{length-map}
 use Rattle.ed_base.specs.declared.Member.{Member}
@@ -10,22 +10,23 @@ use Rattle.ed_base.specs.declared.Refusal.{Refusal}
 use Rattle.ed_base.specs.declared.Which.{Which}
 use Rattle.ed_base.specs.Numbers.{first_some, is_among, places}
 use Rattle.ed_base.specs.Spans.{end_of}
-use Rattle.ed_base.specs.ChangeList.{change_list, step}
-use Rattle.ed_graph.proofs.Fuel.{within_rounds}
-use Rattle.ed_graph.specs.Standing.{IsLevelled, height_in, order_in, sources_in as graph_sources}
+use Rattle.ed_base.specs.ChangeList.{change_list, new_len, step}
+use Rattle.ed_graph.specs.Standing.{IsLevelled, height_in, sources_in as graph_sources}
 use Rattle.ed_layers.specs.Cells.{text}
 use Rattle.ed_layers.specs.CarrierStep.{carrier_step, record_trails, stay_around}
 use Rattle.ed_layers.specs.Graph as order
-use Rattle.ed_layers.specs.Records.{Record, base, projection, elision, members_len, sources_of, version_in}
+use Rattle.ed_layers.specs.Order.{mode_fault, overlap_fault}
+use Rattle.ed_layers.specs.Records.{Record, projection, members_len, sources_of, version_in}
 use Rattle.ed_layers.specs.SourceStep.{SourceStep}
+use Rattle.ed_pieces.specs.Trails.{trails_in}
 use Rattle.ed_project.specs.Planning as projections
 use Rattle.ed_project.specs.Records.{Projection, Next, IsUnchanged, record_of, shown, shown_now, version_at}
 use Rattle.ed_project.specs.Texts.{no_steps, text_in, text_over}
 use Rattle.ed_project.specs.declared.Shown.{Shown}
 use Rattle.ed_stock.specs.Limits.{over, stock_limits}
 use Rattle.ed_stock.specs.Making.{sources_in, spans_replaced, spans_set}
-use Rattle.ed_stock.specs.Stock.{Stock, Buffer, buffer, count, graph_order, now, record_at, record_now, sources_now, text_at, text_now, with_buffer}
-use Rattle.ed_stock.specs.Versions.{Rising, at_now, is_moved, none_given, risen, risen_at, step_in, with_record, with_version}
+use Rattle.ed_stock.specs.Stock.{Stock, Buffer, buffer, count, now, record_at, record_now, sources_now, text_at, text_now, with_buffer}
+use Rattle.ed_stock.specs.Versions.{Rising, at_now, none_given, risen, step_in, with_record, with_version}
 use Rattle.ed_group.specs.Answers.{LiesIn, members_now}
 use Rattle.ed_held.specs.declared.held.Held.{Held}
 use Rattle.ed_held.specs.declared.moves.Move.{Move}
@@ -33,8 +34,8 @@ use Rattle.ed_held.specs.declared.moves.Planned.{Planned}
 use Rattle.ed_risen.specs.Founded.{Founded, Extends}
 use Rattle.ed_risen.specs.Counting.{turned_in}
 use Rattle.ed_risen.specs.Growing.{AreFounded, Grows}
-use Rattle.ed_held.specs.Moves.{CanMake, move_of, move_seen, rising_of, with_move}
-use Rattle.ed_risen.specs.Rising.{EndsIn, HasStepped, Inside, IsNow, IsRisen, IsSettled, Rises, plain}
+use Rattle.ed_held.specs.Moves.{CanMake, move_of, move_seen, rising_of, step_of, with_move}
+use Rattle.ed_risen.specs.Rising.{EndsIn, HasStepped, Inside, IsNow, IsRisen, IsSettled, Rises}
 use Rattle.ed_climb.specs.Route.{AreTrue, Climbs, IsNewest}
 use Rattle.ed_held.specs.Seen.{known, seen, stock}
 use Rattle.ed_risen.specs.Start.{IsStart}
@@ -43,19 +44,15 @@ use Rattle.ed_risen.proofs.Turning.{turned_limits}
 use Rattle.ed_risen.proofs.Starts.{count_left, only_too_long, risen_is}
 use Rattle.ed_group.specs.Spanning.{below, spans_first, spans_route}
 use Rattle.ed_climb.proofs.Advanced.{map_set, same_known}
-use Rattle.ed_risen.proofs.MemberCounts.{most_all}
-use Rattle.ed_risen.proofs.Lists.{among_itself, among_more, among_front, clash, each_both, among_behind, among_split, each_among, fold_append, passes, passing, each_of, get_map}
+use Rattle.ed_risen.proofs.Lists.{among_itself, among_more, clash, each_both, passes, passing, each_of, get_map}
 use Rattle.ed_climb.proofs.Climb.{rising_to, snapshot_by, stepped_by}
 use Rattle.ed_risen.proofs.FoundedLemmas.{each_version, each_weaker, founded_in, founded_of}
-use Rattle.ed_risen.proofs.Growth.{missing, grown_extends, grown_founded, grown_last, grown_length, grown_now, grown_now_other, grown_record_now, grown_record_other, grown_text_now, same_growth, set_grows, set_here, set_other, version_grows}
-use Rattle.ed_risen.proofs.Order.{Comes, order_all, order_comes}
+use Rattle.ed_risen.proofs.Growth.{grown_extends, grown_founded, grown_last, grown_length, grown_now, grown_now_other, grown_record_now, grown_record_other, grown_text_now, same_growth, set_grows, set_here, version_grows}
 use Rattle.ed_risen.proofs.Lengths.{Fits, length_slots, length_text_over, plain_trails}
 use Rattle.ed_risen.proofs.Sources.{IsListed, all_listed, named_among}
-use Rattle.ed_risen.proofs.OneLimit.{each_none, first_long}
-use Rattle.ed_risen.proofs.RisingLemmas.{get_last, now_is_there}
+use Rattle.ed_risen.proofs.RisingLemmas.{Same, get_last, inside_same, now_is_there}
 use Rattle.ed_climb.proofs.Routes.{greatest_above}
 use Rattle.ed_risen.proofs.Texts.{named_text, projection_text, same_text}
-use Rattle.ed_risen.proofs.Turns.{NamesStay, names_stay, text_stays}
 use Rattle.ed_climb.proofs.Snapshots.{held_buffer, held_record, snap_there, snaps, snaps_text}
 use Rattle.ed_climb.proofs.KeptNumbers.{few}
 
@@ -164,15 +161,15 @@ module _ (hs : List Held) (settled : IsSettled (stock hs)) (g : List (List ℕ))
   ends_here (Member.Literal xs) l e = tt
   ends_here (Member.Tracked source bounds mode) l e = (named_among (now s) sources source l, e.1)
 
-  inside_b : Inside s new
-  inside_b = each_both (IsListed sources) (LiesIn s) (EndsIn s named) ends_here members (all_listed members) lies
+  ends_b : Each (EndsIn s named) members
+  ends_b = each_both (IsListed sources) (LiesIn s) (EndsIn s named) ends_here members (all_listed members) lies
 
   fits_here : (m : Member) → EndsIn s named m → Fits (text_in (snaps s named)) m
   fits_here (Member.Literal xs) e = tt
   fits_here (Member.Tracked source bounds mode) e = subst (λ x. end_of bounds ≤ length x) (sym (ap (λ o. unwrap_or o []) (snap_there s named source (now s source) e.0))) e.1
 
   pub units_len : length units ≡ members_len members
-  units_len = length_text_over (text_in (snaps s named)) members (each_weaker (EndsIn s named) (Fits (text_in (snaps s named))) fits_here members inside_b)
+  units_len = length_text_over (text_in (snaps s named)) members (each_weaker (EndsIn s named) (Fits (text_in (snaps s named))) fits_here members ends_b)
 
   -- ---- the stock with its version
 
@@ -217,19 +214,14 @@ module _ (hs : List Held) (settled : IsSettled (stock hs)) (g : List (List ℕ))
       | inr low ↦ subst (λ x. Each (λ v. Low v.0) (sources_of x)) (sym (record_still c low)) (still_low c low)
     ]
 
-    ends_then : (vs : List (ℕ × ℕ)) → Each (λ v. Low v.0) vs → (m : Member) → EndsIn s vs m → EndsIn u vs m
-    ends_then vs low (Member.Literal xs) e = tt
-    ends_then vs low (Member.Tracked source bounds mode) e =
-        let l : Low source = each_version (λ v. Low v.0) vs source (now s source) low e.0 in
-        (e.0 ∙ ap Some (sym (now_still source l)), subst (λ xs. end_of bounds ≤ length xs) (sym (text_still source l)) e.1)
+    same_then : (v : ℕ × ℕ) → Low v.0 → Same s u v
+    same_then v low = record { at = now_still v.0 low; text = text_still v.0 low }
 
     inside_then : (x : Record) → Each (λ v. Low v.0) (sources_of x) → Inside s x → Inside u x
-    inside_then (base xs reiterated) low i = tt
-    inside_then (projection ms vs) low i = each_weaker (EndsIn s vs) (EndsIn u vs) (ends_then vs low) ms i
-    inside_then (elision flags source version) low i = absurd i
+    inside_then x low i = inside_same s u x (each_weaker (λ v. Low v.0) (Same s u) same_then (sources_of x) low) i
 
-    risen_b : IsRisen u h initial b
-    risen_b = record {
+    risen_b : Inside s new → IsRisen u h initial b
+    risen_b inside_b = record {
       closed = each_weaker (λ (v : ℕ × ℕ). Low v.0) (λ v. is_among v.0 initial ≡ true) (λ v low. in_initial v.0 low) (sources_of (record_now u b)) (low_then b (among_itself b (below g b)));
       current = subst (λ x. Each (IsNow u) (sources_of x)) (sym record_then) (each_named (IsNow u) (λ c low. sym (now_still c low)));
       shallow = founded_of (record_at u) (h b) (b, now u b) (record_now u b) (now_is_there u b (let l : length (buffer u b).records ≡ suc (length (buffer s b).records) = grown_length s u b new grows in omega arith))
@@ -253,9 +245,12 @@ module _ (hs : List Held) (settled : IsSettled (stock hs)) (g : List (List ℕ))
       (p q : Projection) (turns : ℕ) (held : slice_get hs b ≡ Some (Held.Projection p turns)) (set : hs' ≡ slice_set hs b (Held.Projection q turns)) (same : IsUnchanged p q)
       (n : Next) (planned : projections.IsPlanned q n) (members_are : n.members ≡ members) (names : n.sources ≡ map (λ c. (c, now (stock hs) c)) (sources_in [] members))
       (text_made : n.snapshot.text ≡ text_over (text_in (snaps (stock hs) (map (λ c. (c, now (stock hs) c)) (sources_in [] members)))) members)
-      (stays : ℕ → Option ℕ) (made : projections.IsStep stays no_steps p n) (fits : members_len members ≤ 2 ^ 22) where
+      (stays : ℕ → Option ℕ) (made : projections.IsStep stays no_steps p n) (fits : members_len members ≤ 2 ^ 22) (apart : overlap_fault members ≡ None) (cover : mode_fault (λ c. length (text_now (stock hs) c)) members ≡ None) where
     abbrev the_move : Move
-    the_move = record { buffer = b; planned = Planned.Projection n }
+    the_move = record { buffer = b; planned = Planned.Projection n; trails = [] }
+
+    inside_b : Inside s new
+    inside_b = record { ends = ends_b; apart = apart; cover = cover }
 
     abbrev next : Record
     next = projection n.members n.sources
@@ -313,8 +308,8 @@ module _ (hs : List Held) (settled : IsSettled (stock hs)) (g : List (List ℕ))
     unfolding carrier_step
     to_len = ap (λ x. x.new_len) made.step ∙ length_slots n.members n.sources ∙ sym planned.long ∙ ap length (sym text_then)
 
-    stepped_b : HasStepped s u b (plain (step n.changes))
-    stepped_b = record { there = there; longer = grown_length s u b new grows; from = from_len; to = to_len; trails = refl }
+    stepped_b : HasStepped s u b (step_of the_move)
+    stepped_b = record { there = there; longer = grown_length s u b new grows; from = from_len; to = to_len }
 
     -- ---- the same by the definitions
 
@@ -341,10 +336,14 @@ module _ (hs : List Held) (settled : IsSettled (stock hs)) (g : List (List ℕ))
     unfolding carrier_step
     trails_are = plain_trails b (step_in []) (λ c x found. absurd (cc)) false next (step n.changes).new_len (sym (ap (λ x. x.new_len) step_is))
 
-    step_seen_is : (record { step = carrier_step stays (step_in []) (record_now s b) next; trails = record_trails b false (step_in []) next }) ≡ plain (step n.changes)
+    -- no unit came through another carrier
+    no_ways : map (λ (x : ℕ). []) (places (step n.changes).new_len) ≡ trails_in [] (new_len n.changes)
+    no_ways = ap (λ k. map {B = List (ℕ × ℕ)} (λ (x : ℕ). []) (places k)) (to_len ∙ ap length text_then ∙ sym planned.to)
+
+    step_seen_is : (record { step = carrier_step stays (step_in []) (record_now s b) next; trails = record_trails b false (step_in []) next }) ≡ step_of the_move
     step_seen_is =
         ap (λ x. stepped_by x (record_trails b false (step_in []) next)) (sym step_is)
-        ∙ ap (stepped_by (step n.changes)) trails_are
+        ∙ ap (stepped_by (step n.changes)) (trails_are ∙ no_ways)
 
     made_first : with_record none b stays next ≡ rising_of s (the_move ∷ [])
     unfolding with_record
@@ -357,18 +356,18 @@ module _ (hs : List Held) (settled : IsSettled (stock hs)) (g : List (List ℕ))
 
     -- ---- the one move
 
-    move_at : (c : ℕ) (m : SourceStep) → step_in (map move_seen (the_move ∷ [])) c ≡ Some m → (c ≡ b) × (m ≡ plain (step n.changes))
+    move_at : (c : ℕ) (m : SourceStep) → step_in (map move_seen (the_move ∷ [])) c ≡ Some m → (c ≡ b) × (m ≡ step_of the_move)
     move_at c m e = by (nat_eq b c) refl e
       where
-        by : (t : Bool) → nat_eq b c ≡ t → (if t then Some (plain (step n.changes)) else None) ≡ Some m → (c ≡ b) × (m ≡ plain (step n.changes))
+        by : (t : Bool) → nat_eq b c ≡ t → (if t then Some (step_of the_move) else None) ≡ Some m → (c ≡ b) × (m ≡ step_of the_move)
         by true t e = (sym (eqb-true b c t), (cc))
         by false t e = absurd (cc)
 
     step_none : (c : ℕ) → c ≢ b → step_in (map move_seen (the_move ∷ [])) c ≡ None
-    step_none c ne = ap (λ t. if t then Some (plain (step n.changes)) else None) (ne_eqb b c (λ e. ne (sym e)))
+    step_none c ne = ap (λ t. if t then Some (step_of the_move) else None) (ne_eqb b c (λ e. ne (sym e)))
 
     unmoved_ne : (c : ℕ) → step_in (map move_seen (the_move ∷ [])) c ≡ None → c ≢ b
-    unmoved_ne c e f = some_not_none (plain (step n.changes)) (sym (ap (λ t. if t then Some (plain (step n.changes)) else None) (eq-eqb b c (sym f))) ∙ e)
+    unmoved_ne c e f = some_not_none (step_of the_move) (sym (ap (λ t. if t then Some (step_of the_move) else None) (eq-eqb b c (sym f))) ∙ e)
       where
         some_not_none : (m : SourceStep) → Some m ≡ None → ⊥
         some_not_none m e = absurd (cc)
@@ -397,10 +396,10 @@ module _ (hs : List Held) (settled : IsSettled (stock hs)) (g : List (List ℕ))
       names = λ c out. ap (λ y. map (λ v. v.0) (sources_of y)) (grown_record_other s u b new grows c (among_ne c [] out));
       started = λ c out. ne_among c (among_ne c (below g b) out);
       unmoved = λ c e. grows.others c (unmoved_ne c e);
-      moved = λ c m e. (let f : (c ≡ b) × (m ≡ plain (step n.changes)) = move_at c m e in subst (HasStepped s u c) (sym f.1) (subst (λ d. HasStepped s u d (plain (step n.changes))) (sym f.0) stepped_b));
+      moved = λ c m e. (let f : (c ≡ b) × (m ≡ step_of the_move) = move_at c m e in subst (HasStepped s u c) (sym f.1) (subst (λ d. HasStepped s u d (step_of the_move)) (sym f.0) stepped_b));
       known = λ c i. elim (of_initial c i) [ inl e ↦ subst (λ d. d < count s) (sym e) there | inr low ↦ low.0 ];
       later = λ c out. step_none c (among_ne c (below g b) out);
-      risen = λ c i. elim (of_initial c i) [ inl e ↦ subst (IsRisen u h initial) (sym e) (risen_b u grows) | inr low ↦ risen_low u grows c low ];
+      risen = λ c i. elim (of_initial c i) [ inl e ↦ subst (IsRisen u h initial) (sym e) (risen_b u grows inside_b) | inr low ↦ risen_low u grows c low ];
     }
 
     newest_b : IsNewest u the_move

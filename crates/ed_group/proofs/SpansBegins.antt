@@ -1,23 +1,20 @@
 -- The beginning of a group that replaces members of a projection, handed on.
-use Rattle.std.proofs.Common.{◌≡◌, ◌≢◌, ℕ, ◌+◌, ◌-◌, ◌<◌, ◌≤◌, ◌^◌, true, false, inl, inr, List, [], ◌∷◌, length, map, fold, Option, Some, None, Ok, Err, refl, sym, ap, ◌∙◌, subst, arith, ltb-false}
-use Rattle.std.specs.Prelude.{All, MatchOption, slice_get}
+use Rattle.std.proofs.Common.{◌≡◌, ◌≢◌, ℕ, ◌<◌, ◌≤◌, true, false, List, [], ◌∷◌, length, map, Option, Some, None, refl, sym, ap, ◌∙◌, subst, ltb-false}
+use Rattle.std.specs.Prelude.{All, slice_get}
 use Rattle.std.specs.List.{AllByRecursion as Each}
 use Rattle.std.proofs.lemmas.List.{length-map}
 use Rattle.ed_base.specs.declared.Member.{Member}
-use Rattle.ed_base.specs.declared.Refusal.{Refusal}
 use Rattle.ed_base.specs.declared.Which.{Which}
-use Rattle.ed_base.specs.Numbers.{first_some, is_among}
+use Rattle.ed_base.specs.Numbers.{is_among}
 use Rattle.ed_graph.specs.Standing.{IsLevelled, order_in, sources_in as graph_sources}
 use Rattle.ed_layers.specs.CarrierStep.{stay_around}
-use Rattle.ed_layers.specs.Records.{is_carrier, is_elision, members_of, projection}
-use Rattle.ed_project.specs.Records.{Next, record_of}
-use Rattle.ed_project.specs.declared.ProjectionFault.{ProjectionFault}
-use Rattle.ed_stock.specs.Limits.{over, some_over, stock_limits}
-use Rattle.ed_stock.specs.Making.{sources_in, spans_replaced, spans_set}
-use Rattle.ed_stock.specs.Stock.{Stock, Buffer, buffer, count, graph_order, record_now, sources_now, text_now}
-use Rattle.ed_stock.specs.Versions.{Rising, none_given, risen_at, versions_made}
+use Rattle.ed_layers.specs.Records.{is_elision, members_of, projection}
+use Rattle.ed_project.specs.Records.{Next}
+use Rattle.ed_stock.specs.Limits.{over, some_over}
+use Rattle.ed_stock.specs.Making.{projection_of, sources_in, spans_replaced, spans_set}
+use Rattle.ed_stock.specs.Stock.{Stock, count, graph_order, record_now, sources_now}
+use Rattle.ed_stock.specs.Versions.{Rising, step_in}
 use Rattle.ed_group.specs.Answers.{LiesIn, members_now, spans_fault}
-use Rattle.ed_climb.specs.Refusals.{Refuses}
 use Rattle.ed_group.specs.Begun.{HasBegunSpans}
 use Rattle.ed_climb.specs.Begins.{Begins, LeadsTo, way}
 use Rattle.ed_climb.specs.declared.beginning.FirstMoves.{FirstMoves}
@@ -28,33 +25,28 @@ use Rattle.ed_held.specs.Moves.{move_seen, rising_of, with_move}
 use Rattle.ed_group.proofs.Begins.{not_only}
 use Rattle.ed_climb.proofs.Groups.{leads}
 use Rattle.ed_climb.proofs.Moved.{most_moved}
+use Rattle.ed_climb.proofs.Theirs.{plain_way}
+use Rattle.ed_risen.proofs.Lengths.{ArePlain}
+use Rattle.ed_risen.proofs.PlainTurns.{plain_record}
 use Rattle.ed_climb.proofs.TurnedKept.{may_turn}
 use Rattle.ed_risen.proofs.Starts.{first_order}
-use Rattle.ed_risen.proofs.Limits.{few_members, not_elision, few_buffers, units_fit}
+use Rattle.ed_risen.proofs.Limits.{few_members, not_elision}
 use Rattle.ed_climb.specs.Climbing.{move_to}
-use Rattle.ed_climb.specs.Counted.{AreCounts, counts_after, told}
-use Rattle.ed_climb.specs.Refusals.{carried_fault}
-use Rattle.ed_climb.specs.Group.{IsPlanned, MayTurn, Plan, known_moved, outcome}
 use Rattle.ed_held.specs.Making.{IsProjection}
 use Rattle.ed_risen.specs.Growing.{Grows}
 use Rattle.ed_climb.specs.Kept.{IsKept}
-use Rattle.ed_climb.specs.Limited.{limit_of, passed}
-use Rattle.ed_climb.specs.Route.{Climbs, HasClimbed, IsRoute, Route}
-use Rattle.ed_held.specs.Seen.{Known, known, last_of, stock, stock_of, seen}
-use Rattle.ed_group.specs.Spanning.{below, spans_first, spans_route}
+use Rattle.ed_climb.specs.Limited.{passed}
+use Rattle.ed_climb.specs.Route.{Climbs}
+use Rattle.ed_held.specs.Seen.{Known, known, stock, seen}
+use Rattle.ed_group.specs.Spanning.{below, spans_first}
 use Rattle.ed_climb.specs.declared.counts.Counts.{Counts}
 use Rattle.ed_held.specs.declared.held.Held.{Held}
 use Rattle.ed_held.specs.declared.moves.Move.{Move}
-use Rattle.ed_risen.proofs.MemberCounts.{as_many}
-use Rattle.ed_held.proofs.KindLemmas.{base_last, projection_last}
-use Rattle.ed_climb.proofs.Asked.{held_is, held_some}
 use Rattle.ed_risen.proofs.Growth.{grown_record_now, grown_record_other, version_grows}
-use Rattle.ed_risen.proofs.Lists.{clash}
 use Rattle.ed_risen.proofs.Order.{in_order, of_order}
 use Rattle.ed_risen.proofs.OneLimit.{none_of, none_past, only_over}
 use Rattle.ed_group.proofs.Respanned.{linked_here, linked_len, linked_other, shown_lies}
 use Rattle.ed_group.proofs.Spanned.{same_names, spans_land}
-use Rattle.ed_risen.proofs.Turns.{turns}
 
 -- ---- one turn more
 
@@ -87,32 +79,32 @@ module _ (hs : List Held) (graph : List (List ℕ)) (counts : Counts) (kept : Is
   lie : Each (LiesIn s) shown
   lie = shown_lies hs graph counts kept before b there first removed added lies
 
-  begins_is : begins ≡ rising_of s (move_to b n ∷ [])
+  begins_is : begins ≡ rising_of s (move_to b n [] ∷ [])
   begins_is = start.climbs.folded
 
-  grows : Grows s (with_move s (move_to b n)) b (projection n.members n.sources)
+  grows : Grows s (with_move s (move_to b n [])) b (projection n.members n.sources)
   grows = version_grows s b (projection n.members n.sources) n.changes there
 
   members_begun : member_count begins.stock b ≡ length n.members
-  members_begun = ap (λ (u : Rising). member_count u.stock b) begins_is ∙ ap (λ x. length (members_of x)) (grown_record_now s (with_move s (move_to b n)) b (projection n.members n.sources) grows)
+  members_begun = ap (λ (u : Rising). member_count u.stock b) begins_is ∙ ap (λ x. length (members_of x)) (grown_record_now s (with_move s (move_to b n [])) b (projection n.members n.sources) grows)
 
   members_beside : (c : ℕ) → c ≢ b → member_count begins.stock c ≡ member_count s c
-  members_beside c ne = ap (λ (u : Rising). member_count u.stock c) begins_is ∙ ap (λ x. length (members_of x)) (grown_record_other s (with_move s (move_to b n)) b (projection n.members n.sources) grows c ne)
+  members_beside c ne = ap (λ (u : Rising). member_count u.stock c) begins_is ∙ ap (λ x. length (members_of x)) (grown_record_other s (with_move s (move_to b n [])) b (projection n.members n.sources) grows c ne)
 
   plain_begun : is_elision (record_now begins.stock b) ≡ false
-  plain_begun = ap (λ (u : Rising). is_elision (record_now u.stock b)) begins_is ∙ ap is_elision (grown_record_now s (with_move s (move_to b n)) b (projection n.members n.sources) grows)
+  plain_begun = ap (λ (u : Rising). is_elision (record_now u.stock b)) begins_is ∙ ap is_elision (grown_record_now s (with_move s (move_to b n [])) b (projection n.members n.sources) grows)
 
   plain_beside : (c : ℕ) → c ≢ b → c < count s → is_elision (record_now begins.stock c) ≡ false
   plain_beside c ne in_ =
-      ap (λ (u : Rising). is_elision (record_now u.stock c)) begins_is ∙ ap is_elision (grown_record_other s (with_move s (move_to b n)) b (projection n.members n.sources) grows c ne) ∙ not_elision s kept.settled c in_
+      ap (λ (u : Rising). is_elision (record_now u.stock c)) begins_is ∙ ap is_elision (grown_record_other s (with_move s (move_to b n [])) b (projection n.members n.sources) grows c ne) ∙ not_elision s kept.settled c in_
 
   -- ---- it begins a group
 
   abbrev move : Move
-  move = move_to b n
+  move = move_to b n []
 
   abbrev next : Rising
-  next = rising_of (stock hs) (move_to b n ∷ [])
+  next = rising_of (stock hs) (move_to b n [] ∷ [])
 
   start_next : IsStart (stock hs) g next
   start_next = record {
@@ -123,11 +115,17 @@ module _ (hs : List Held) (graph : List (List ℕ)) (counts : Counts) (kept : Is
     names = ap (λ (u : Rising). sources_now u.stock) (sym begins_is) ∙ same_names hs kept.settled g len start.levelled b there others shown here lie stays;
   }
 
-  begins_next : Begins (map known hs) hs₁ g (move_to b n ∷ []) (b ∷ []) (b ∷ below g b)
+  -- no unit of the one version came through another carrier
+  plain_next : ArePlain (step_in next.moves)
+  plain_next = subst (λ (u : Rising). ArePlain (step_in u.moves)) begins_is
+      (plain_record (record { stock = s; moves = [] }) b stays (projection_of s shown) (λ c m found. absurd (let e : None ≡ Some m = found in cc)))
+
+  begins_next : Begins (map known hs) hs₁ g (move_to b n [] ∷ []) (b ∷ []) (b ∷ below g b)
   begins_next = record {
     is_start = start_next;
     others = λ c out. others c (not_only b c out);
-    climbs = subst (λ u. Climbs (way (map known hs) g (b ∷ []) (b ∷ below g b) u) [] (b ∷ below g b) hs₁ (move_to b n ∷ [])) begins_is start.climbs;
+    theirs = plain_way s next (order_in g) plain_next;
+    climbs = subst (λ u. Climbs (way (map known hs) g (b ∷ []) (b ∷ below g b) u) [] (b ∷ below g b) hs₁ (move_to b n [] ∷ [])) begins_is start.climbs;
   }
 
   few_other : (c : ℕ) → c ≢ b → is_among c (order_in g) ≡ true → member_count next.stock c ≤ 1024
@@ -147,9 +145,9 @@ module _ (hs : List Held) (graph : List (List ℕ)) (counts : Counts) (kept : Is
       here_in : is_among b (order_in g) ≡ true
       here_in = subst (λ xs. is_among b xs ≡ true) (first_order s g next start_next) (in_order next.stock b (subst (λ k. b < k) (sym start.climbs.rises.same_count) there))
 
-  pub spans_lead : ((h : Held) → slice_get hs b ≡ Some h → IsProjection h) → (f : FirstMoves) → f.graph ≡ g → f.moves.items ≡ move_to b n ∷ [] → f.turned ≡ Some b → f.members ≡ passed Which.Members 1024 (length n.members)
+  pub spans_lead : ((h : Held) → slice_get hs b ≡ Some h → IsProjection h) → (f : FirstMoves) → f.graph ≡ g → f.moves.items ≡ move_to b n [] ∷ [] → f.turned ≡ Some b → f.members ≡ passed Which.Members 1024 (length n.members)
       → map (λ s. (s.source, step_seen s)) f.steps.items ≡ map move_seen f.moves.items → LeadsTo hs₁ (spans_fault (stock hs) b first removed added) (spans_set (stock hs) b first removed added) f
   spans_lead could f graph_is moves turned members seen =
-      leads hs hs₁ start.climbs.same f g (move_to b n ∷ []) (Some b) (passed Which.Members 1024 (length n.members)) graph_is moves turned members (b ∷ []) (b ∷ below g b) begins_next seen members_next
+      leads hs hs₁ start.climbs.same f g (move_to b n [] ∷ []) (Some b) (passed Which.Members 1024 (length n.members)) graph_is moves turned members (b ∷ []) (b ∷ below g b) begins_next seen members_next
       (may_turn hs graph counts kept b there hs₁ start.climbs.same could) (spans_fault s b first removed added) (spans_set s b first removed added)
       (spans_land hs kept.settled g len start.levelled b there others shown here lie first removed added refl next begins_is) start.limits

@@ -1,17 +1,16 @@
 -- A stock in which the regions of one buffer have changed is still kept.
-use Rattle.std.proofs.Common.{◌≡◌, ℕ, ◌-◌, ◌<◌, ◌^◌, Bool, true, false, inl, inr, List, [], ◌∷◌, length, map, Option, Some, refl, sym, ap, ◌∙◌, subst, arith, length-set}
-use Rattle.std.specs.Prelude.{filter, not, ◌||◌, slice_get, slice_set, unwrap_or, Result, Ok, Err, OnOk, OnErr}
-use Rattle.std.specs.List.{AllByRecursion as Each, list_any}
+use Rattle.std.proofs.Common.{◌≡◌, ℕ, ◌-◌, ◌<◌, ◌^◌, false, inl, inr, List, [], ◌∷◌, length, map, Option, Some, refl, sym, ap, ◌∙◌, subst, arith, length-set}
+use Rattle.std.specs.Prelude.{slice_get, slice_set, unwrap_or, Result, Ok, Err, OnOk, OnErr}
+use Rattle.std.specs.List.{AllByRecursion as Each}
 use Rattle.std.proofs.lemmas.Bool.{cases_eq}
 use Rattle.std.proofs.lemmas.Option.{slice_get_within}
 use Rattle.ed_base.specs.declared.refusal.Refusal.{Refusal}
 use Rattle.ed_base.specs.declared.refusal.Which.{Which}
-use Rattle.ed_base.specs.Denial.{Region}
 use Rattle.ed_base.specs.Numbers.{first_some, places}
 use Rattle.ed_layers.specs.Cells.{text, vector}
 use Rattle.ed_layers.specs.Graph.{graph_order}
 use Rattle.ed_layers.specs.Records.{Record, base, is_carrier, members_of, sources_of}
-use Rattle.ed_readonly.specs.LiveRegions.{LiveRegions, is_live, is_numbered, without_region}
+use Rattle.ed_readonly.specs.LiveRegions.{LiveRegions}
 use Rattle.ed_stock.specs.Limits.{inserted, over, placements, some_over, stock_limits, versions}
 use Rattle.ed_stock.specs.Stock.{Stock, Buffer, buffer, count, record_now, text_at, text_now, with_buffer}
 use Rattle.ed_held.specs.Asking.{IsBase, zoned, zoned_buffer}
@@ -22,7 +21,6 @@ use Rattle.ed_climb.specs.Kept.{IsKept}
 use Rattle.ed_risen.specs.Laws.{HasOneVersionEach}
 use Rattle.ed_risen.specs.Rising.{Inside, IsSettled}
 use Rattle.ed_held.specs.Seen.{Known, known, last_of, stock, stock_of, text_of}
-use Rattle.ed_buffer.specs.Planning.{Base}
 use Rattle.ed_climb.proofs.Advanced.{map_set}
 use Rattle.ed_held.proofs.KindLemmas.{base_held, texts_count}
 use Rattle.ed_climb.proofs.Asked.{held_is, held_some, held_texts}

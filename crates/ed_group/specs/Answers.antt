@@ -10,10 +10,6 @@ use Rattle.ed_stock.specs.Stock.{Stock, record_now, text_now, count}
 use Rattle.ed_stock.specs.Limits.{stock_limits}
 use Rattle.ed_stock.specs.Linking.{cycle, depth}
 use Rattle.ed_stock.specs.Making.{with_new, projection_of, sources_in, spans_replaced, spans_set}
-use Rattle.ed_base.specs.ChangeList.{ChangeList}
-use Rattle.ed_base.specs.Hooks.{HookTable}
-use Rattle.ed_stock.specs.Landing.{denial, landed, pieces_of_changes}
-use Rattle.ed_stock.specs.Versions.{Rising, none_given}
 
 abbrev pub len_now : Stock → ℕ → ℕ
 len_now s b = length (text_now s b)
@@ -28,15 +24,15 @@ LiesIn s (Member.Tracked source bounds mode) = (source < count s) × (end_of bou
 abbrev pub with_base : Stock → List ℕ → Stock
 with_base s text = with_new s (base text 0) None
 
-abbrev pub with_projection : Stock → List Member → Stock
-with_projection s members = with_new s (projection_of s members) None
+abbrev pub with_projection : Stock → List Member → Option (List ℕ) → Stock
+with_projection s members resolver = with_new s (projection_of s members) resolver
 
 -- why no buffer is added
 abbrev pub base_fault : Stock → List ℕ → Option Refusal
 base_fault s text = first_some (stock_limits (with_base s text))
 
 abbrev pub projection_fault : Stock → List Member → Option Refusal
-projection_fault s members = first_some (mode_fault (len_now s) members ∷ overlap_fault members ∷ depth s (count s + 1) (count s) (sources_in [] members) ∷ first_some (stock_limits (with_projection s members)) ∷ [])
+projection_fault s members = first_some (mode_fault (len_now s) members ∷ overlap_fault members ∷ depth s (count s + 1) (count s) (sources_in [] members) ∷ first_some (stock_limits (with_projection s members None)) ∷ [])
 
 -- ---- replaced spans
 
@@ -48,13 +44,3 @@ abbrev pub spans_fault : Stock → ℕ → ℕ → ℕ → List Member → Optio
 spans_fault s b first removed added =
     let shown : List Member = spans_replaced (members_now s b) first removed added in
     first_some (mode_fault (len_now s) shown ∷ overlap_fault shown ∷ cycle s b added ∷ depth s (count s) b (sources_in [] shown) ∷ first_some (stock_limits (spans_set s b first removed added).stock) ∷ [])
-
--- ---- edits of a base
-
--- the stock once these changes of a base have landed
-abbrev pub edit_landed : Stock → ℕ → ChangeList → Rising
-edit_landed s b c = landed s (pieces_of_changes b c.changes) none_given none_given
-
--- why the edit isn't planned
-abbrev pub edit_fault : HookTable → Stock → ℕ → ChangeList → Option Refusal
-edit_fault hooks s b c = first_some (denial hooks s (pieces_of_changes b c.changes) ∷ first_some (stock_limits (edit_landed s b c).stock) ∷ [])

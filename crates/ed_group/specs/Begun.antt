@@ -2,7 +2,7 @@
 use Rattle.std.specs.Prelude.{◌≡◌, ℕ, List, [], ◌∷◌, length}
 use Rattle.ed_base.specs.declared.Member.{Member}
 use Rattle.ed_base.specs.Numbers.{first_some}
-use Rattle.ed_graph.specs.Standing.{IsLevelled, linked, order_in}
+use Rattle.ed_graph.specs.Standing.{IsLevelled, linked}
 use Rattle.ed_layers.specs.CarrierStep.{stay_around}
 use Rattle.ed_project.specs.Records.{Next}
 use Rattle.ed_stock.specs.Limits.{stock_limits}
@@ -23,4 +23,4 @@ pub record HasBegunSpans (hs hs' : List Held) (graph : List (List ℕ)) (b first
   pub graph_is : r.0 ≡ linked graph b (sources_in [] (members_then hs b first removed added))
   pub levelled : IsLevelled r.0
   pub limits : spans_fault (stock hs) b first removed added ≡ first_some (stock_limits (spans_set (stock hs) b first removed added).stock)
-  pub climbs : Climbs (spans_route hs r.0 b (spans_first (stock hs) b (stay_around first removed (length added)) (members_then hs b first removed added))) [] (b ∷ below r.0 b) hs' (move_to b r.1 ∷ [])
+  pub climbs : Climbs (spans_route hs r.0 b (spans_first (stock hs) b (stay_around first removed (length added)) (members_then hs b first removed added))) [] (b ∷ below r.0 b) hs' (move_to b r.1 [] ∷ [])

@@ -5,6 +5,5 @@ pub use Rattle.ed_climb.specs.Refusals
 pub use Rattle.ed_climb.specs.Group
 pub mod Answers
 pub mod Placed
-pub mod Editing
 pub mod Spanning
 pub mod Begun

@@ -1,16 +1,12 @@
 -- The way of a group that replaces members of a projection.
-use Rattle.std.specs.Prelude.{◌≡◌, ℕ, ◌+◌, ◌≤◌, List, [], ◌∷◌, length, map, filter, nat_lt, slice_set, Option, Some, None, Result, IfOk, option_map}
+use Rattle.std.specs.Prelude.{◌≡◌, ℕ, List, [], ◌∷◌, length, map, filter, nat_lt, slice_set, Option, Some, None, Result, option_map}
 use Rattle.ed_base.specs.declared.Member.{Member}
 use Rattle.ed_base.specs.declared.Refusal.{Refusal}
 use Rattle.ed_base.specs.Numbers.{or_else, places}
 use Rattle.ed_graph.specs.declared.fault.LinkFault.{LinkFault}
 use Rattle.ed_graph.specs.Standing.{first_cycle, height_in, linked}
 use Rattle.ed_base.specs.declared.OutOfMemory.{OutOfMemory}
-use Rattle.ed_layers.specs.CarrierStep.{stay_around}
-use Rattle.ed_members.specs.Faults.{replaced}
-use Rattle.ed_project.specs.Planning.{IsPlanned, IsStep, added_in}
-use Rattle.ed_project.specs.Records.{IsUnchanged, Next, Projection, shown_now}
-use Rattle.ed_project.specs.Texts.{no_steps, text_in, text_over, versions_of}
+use Rattle.ed_project.specs.Records.{Next, Projection}
 use Rattle.ed_stock.specs.Making.{projection_of}
 use Rattle.ed_stock.specs.Stock.{Stock}
 use Rattle.ed_stock.specs.Versions.{Rising, with_record}

@@ -11,7 +11,7 @@ ghost use Rattle.ed_held.specs.Seen.{known, stock};
 use crate::listing::{lengths, newest_all, sources_in, tracked};
 use crate::placing::{joined, placed};
 use crate::stock::Stock;
-use ed_base::{BufferNo, Member, OutOfMemory, Refusal, Unit};
+use ed_base::{BufferNo, Member, Name, OutOfMemory, Refusal, Unit};
 use ed_buffer::Base;
 use ed_climb::{Counts, PlanFault, new_limit};
 use ed_graph::Graph;
@@ -76,7 +76,8 @@ impl Stock {
     }
 
     /// Adds a projection of these members, over the current versions of their sources, and gives
-    /// its number.
+    /// its number. The resolver, if one is named, is the rule by which changes of it are shared among
+    /// the sources.
     ///
     /// # Errors
     ///
@@ -86,11 +87,12 @@ impl Stock {
         &mut self,
         alloc: Global,
         members: Vec<Member>,
+        resolver: Option<Name>,
     ) -> Result<BufferNo, PlanFault>
         requires inside { All (LiesIn (stock self.old)) members.items }
         ensures fault { Refuses (projection_fault (stock self.old) members.items) result }
         ensures number { IfOk result (λ b. b ≡ count (stock self.old)) }
-        ensures ok { OnOk result (stock self.new ≡ with_projection (stock self.old) members.items) }
+        ensures ok { OnOk result (stock self.new ≡ with_projection (stock self.old) members.items resolver) }
         ensures err { OnErr result (stock self.new ≡ stock self.old) }
         ensures stay { RecordsStay (stock self.old) (stock self.new) }
     {
@@ -107,7 +109,7 @@ impl Stock {
         if let Some(refusal) = new_limit(buffers + 1, units, &counts, most) {
             return Err(PlanFault::Refused(refusal));
         }
-        let projection = Projection::new(alloc, buffer, members, &snapshots, None)?;
+        let projection = Projection::new(alloc, buffer, members, &snapshots, resolver)?;
         self.put(
             Held::Projection {
                 projection,

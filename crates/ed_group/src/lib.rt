@@ -2,7 +2,6 @@
 #![tactic(auto)]
 
 mod adding;
-mod editing;
 mod listing;
 mod making;
 mod placing;

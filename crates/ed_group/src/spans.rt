@@ -20,6 +20,7 @@ use ed_base::{BufferNo, Member};
 use ed_climb::{FirstMoves, Group, PlanFault, add, group_from, members_limit};
 use ed_graph::Graph;
 use ed_held::{Held, Planned};
+use ed_pieces::Trails;
 use std::alloc::Global;
 
 /// Whether members of one of these buffers can be set once more.
@@ -64,9 +65,9 @@ fn replaced(
     let mut moves = Vec::new(alloc);
     let mut steps = Vec::new(alloc);
     add(
-        alloc,
         buffer,
         Planned::Projection(next),
+        Trails::empty(),
         &mut moves,
         &mut steps,
     )?;

@@ -21,7 +21,7 @@ use Rattle.ed_climb.proofs.Asked.{got}
 use Rattle.ed_climb.proofs.KeptNumbers.{held_len, not_passed}
 use Rattle.ed_group.proofs.Begins.{can_respan, handed_on, has_begun, long_refused, members_are, there}
 use Rattle.ed_group.proofs.Projected.{have_all, refuses_memory, snaps_held, sources_within}
-use Rattle.ed_group.proofs.Respanned.{all_lie, limits_left, members_refused, sources_refused}
+use Rattle.ed_group.proofs.Respanned.{all_lie, limits_left, members_refused, shown_apart, shown_cover, sources_refused}
 use Rattle.ed_climb.proofs.Snapshots.{snaps}
 use Rattle.ed_group.proofs.spanning.begun.Goals as goal
 
@@ -166,4 +166,4 @@ returns-clause-begun c =
     let graph_is : c.in_ok-linked.linked ≡ linked c.args.graph.now c.args.buffer (sources_in [] (spans_replaced (members_now (stock c.args.buffers.now) c.args.buffer) c.args.first c.args.removed c.args.added.items)) = c.in_ok-linked.ensures.graph ∙ ap (linked c.args.graph.now c.args.buffer) (c.deref-5.ensures.value ∙ are) in
     let limits : spans_fault (stock c.args.buffers.now) c.args.buffer c.args.first c.args.removed c.args.added.items ≡ first_some (stock_limits (spans_set (stock c.args.buffers.now) c.args.buffer c.args.first c.args.removed c.args.added.items).stock) = limits_left c.args.buffers.now c.args.graph.now c.requires.kept.0 kept c.order-order.ensures.levelled c.args.buffer in_stock c.args.first c.args.removed c.args.added.items c.requires.inside c.in_ok-snapshots.snapshots.items found c.deref-4.result.now long _ c.in_ok-members.members apart _ c.in_ok-linked.linked stands in
     let long_is : c.from.result ≡ members_len (spans_replaced (members_now (stock c.args.buffers.now) c.args.buffer) c.args.first c.args.removed c.args.added.items) = c.from.ensures ∙ c.len.ensures ∙ ap members_len members_shown in
-    has_begun c.args.buffers.now c.args.graph.now c.requires.kept.0 kept c.args.buffer c.requires.there c.requires.projection c.args.first c.args.removed c.requires.part c.args.added.items c.order-order.ensures.levelled c.requires.inside c.in_ok-linked.linked graph_is c.in_ok-linked.ensures.levelled limits c.reshown.new.buffers c.index-all-buffer.result held c.in_ok-members.members members_shown (subst (λ k. k ≤ 2 ^ 22) (long_is ∙ ap members_len (sym members_shown)) (not_passed Which.Units (2 ^ 22) c.from.result (sym c.units_limit.ensures ∙ c.in_default.is))) c.deref-6.result.now (c.deref-6.ensures.value ∙ found) c.in_ok-next.next (c.in_ok-next.ensures.reshown c.index-all-buffer.result held)
+    has_begun c.args.buffers.now c.args.graph.now c.requires.kept.0 kept c.args.buffer c.requires.there c.requires.projection c.args.first c.args.removed c.requires.part c.args.added.items c.order-order.ensures.levelled c.requires.inside c.in_ok-linked.linked graph_is c.in_ok-linked.ensures.levelled limits (shown_apart c.args.buffers.now c.args.graph.now c.requires.kept.0 kept c.order-order.ensures.levelled c.args.buffer in_stock c.args.first c.args.removed c.args.added.items c.requires.inside c.in_ok-snapshots.snapshots.items found c.deref-4.result.now long _ c.in_ok-members.members apart) (shown_cover c.args.buffers.now c.args.graph.now c.requires.kept.0 kept c.order-order.ensures.levelled c.args.buffer in_stock c.args.first c.args.removed c.args.added.items c.requires.inside c.in_ok-snapshots.snapshots.items found c.deref-4.result.now long _ c.in_ok-members.members apart) c.reshown.new.buffers c.index-all-buffer.result held c.in_ok-members.members members_shown (subst (λ k. k ≤ 2 ^ 22) (long_is ∙ ap members_len (sym members_shown)) (not_passed Which.Units (2 ^ 22) c.from.result (sym c.units_limit.ensures ∙ c.in_default.is))) c.deref-6.result.now (c.deref-6.ensures.value ∙ found) c.in_ok-next.next (c.in_ok-next.ensures.reshown c.index-all-buffer.result held)

@@ -91,7 +91,7 @@ put-requires c =
     let are : c.in_ok-sources.sources.items ≡ sources_in [] c.args.members.items = c.in_ok-sources.ensures ∙ ap (sources_in []) c.deref.ensures.value in
     let found : c.in_ok-snapshots.snapshots.items ≡ snaps (stock c.args.self.now) (map (λ b. (b, now (stock c.args.self.now) b)) (sources_in [] c.args.members.items)) = snaps_held c.args.self.now c.self.inside.graph c.self.inside.counts kept c.args.members.items c.requires.inside c.deref-3.result.now c.in_ok-snapshots.snapshots.items (c.deref-3.ensures.value ∙ are) (c.in_ok-snapshots.ensures ∙ ap (λ hs. map (snapshot_now hs) c.deref-3.result.now) (c.deref-2.ensures.value ∙ c.self.view_is)) in
     let long : c.deref-6.result.now ≡ map {B = ℕ × ℕ} (λ (x : Snapshot). (x.buffer, length x.text)) c.in_ok-snapshots.snapshots.items = c.deref-6.ensures.value ∙ c.in_ok-lengths.ensures ∙ ap (map {B = ℕ × ℕ} (λ (x : Snapshot). (x.buffer, length x.text))) c.deref-4.ensures.value in
-    record { kept = projection_put c.args.self.now c.self.inside.graph c.self.inside.counts kept c.args.members.items c.requires.inside c.in_ok-snapshots.snapshots.items found c.deref-6.result.now long _ c.in_ok-members.members c.in_ok-members.ensures.fault _ (c.in_ok-graph.graph, c.in_ok-graph.buffer) (subst (λ xs. Refuses (too_deep (linked (c.self.inside.graph ++ [] ∷ []) (length c.self.inside.graph) xs)) (Ok (c.in_ok-graph.graph, c.in_ok-graph.buffer))) (c.deref-7.ensures.value ∙ are) c.in_ok-graph.ensures.fault) c.in_ok-graph.graph (c.in_ok-graph.ensures.graph ∙ ap (linked (c.self.inside.graph ++ [] ∷ []) (length c.self.inside.graph)) (c.deref-7.ensures.value ∙ are)) c.in_ok-graph.ensures.levelled c.from-buffers.result (c.from-buffers.ensures ∙ c.count.ensures ∙ held_len c.args.self.now c.self.inside.graph c.self.inside.counts kept) c.tracked-follow.result (c.tracked-follow.ensures ∙ ap (count_by is_tracked) c.deref-5.ensures.value) c.with_buffer-counts.result c.with_buffer-counts.ensures (sym (c.new_limit.ensures ∙ same_args (c.from-buffers.result + 1) c.from-units.result (members_len c.args.members.items) c.with_buffer-counts.result c.from-most.result (length c.args.members.items) (c.from-units.ensures ∙ c.len.ensures ∙ ap members_len c.in_ok-members.ensures.members) (c.from-most.ensures ∙ c.count-2.ensures.count ∙ ap length c.in_ok-members.ensures.members)) ∙ c.in_default.is) c.in_ok-projection.projection (c.in_ok-projection.ensures.buffer ∙ c.in_ok-graph.ensures.number ∙ held_len c.args.self.now c.self.inside.graph c.self.inside.counts kept) (c.in_ok-projection.ensures.versions ∙ ap (λ xs. shown c.in_ok-members.members (versions_of xs) (text_over (text_in xs) c.in_ok-members.members) ∷ []) c.deref-8.ensures.value ∙ ap (λ xs. shown xs (versions_of c.in_ok-snapshots.snapshots.items) (text_over (text_in c.in_ok-snapshots.snapshots.items) xs) ∷ []) c.in_ok-members.ensures.members) c.in_ok-projection.ensures.changes c.in_ok-projection.ensures.resolver }
+    record { kept = projection_put c.args.self.now c.self.inside.graph c.self.inside.counts kept c.args.members.items c.requires.inside c.in_ok-snapshots.snapshots.items found c.deref-6.result.now long _ c.in_ok-members.members c.in_ok-members.ensures.fault _ (c.in_ok-graph.graph, c.in_ok-graph.buffer) (subst (λ xs. Refuses (too_deep (linked (c.self.inside.graph ++ [] ∷ []) (length c.self.inside.graph) xs)) (Ok (c.in_ok-graph.graph, c.in_ok-graph.buffer))) (c.deref-7.ensures.value ∙ are) c.in_ok-graph.ensures.fault) c.in_ok-graph.graph (c.in_ok-graph.ensures.graph ∙ ap (linked (c.self.inside.graph ++ [] ∷ []) (length c.self.inside.graph)) (c.deref-7.ensures.value ∙ are)) c.in_ok-graph.ensures.levelled c.from-buffers.result (c.from-buffers.ensures ∙ c.count.ensures ∙ held_len c.args.self.now c.self.inside.graph c.self.inside.counts kept) c.tracked-follow.result (c.tracked-follow.ensures ∙ ap (count_by is_tracked) c.deref-5.ensures.value) c.with_buffer-counts.result c.with_buffer-counts.ensures (sym (c.new_limit.ensures ∙ same_args (c.from-buffers.result + 1) c.from-units.result (members_len c.args.members.items) c.with_buffer-counts.result c.from-most.result (length c.args.members.items) (c.from-units.ensures ∙ c.len.ensures ∙ ap members_len c.in_ok-members.ensures.members) (c.from-most.ensures ∙ c.count-2.ensures.count ∙ ap length c.in_ok-members.ensures.members)) ∙ c.in_default.is) c.args.resolver c.in_ok-projection.projection (c.in_ok-projection.ensures.buffer ∙ c.in_ok-graph.ensures.number ∙ held_len c.args.self.now c.self.inside.graph c.self.inside.counts kept) (c.in_ok-projection.ensures.versions ∙ ap (λ xs. shown c.in_ok-members.members (versions_of xs) (text_over (text_in xs) c.in_ok-members.members) ∷ []) c.deref-8.ensures.value ∙ ap (λ xs. shown xs (versions_of c.in_ok-snapshots.snapshots.items) (text_over (text_in c.in_ok-snapshots.snapshots.items) xs) ∷ []) c.in_ok-members.ensures.members) c.in_ok-projection.ensures.changes c.in_ok-projection.ensures.resolver }
 
 pub returns-clause-fault : goal.returns-clause-fault
 returns-clause-fault c =
@@ -107,7 +107,7 @@ returns-clause-ok c =
     let are : c.in_ok-sources.sources.items ≡ sources_in [] c.args.members.items = c.in_ok-sources.ensures ∙ ap (sources_in []) c.deref.ensures.value in
     let found : c.in_ok-snapshots.snapshots.items ≡ snaps (stock c.args.self.now) (map (λ b. (b, now (stock c.args.self.now) b)) (sources_in [] c.args.members.items)) = snaps_held c.args.self.now c.self.inside.graph c.self.inside.counts kept c.args.members.items c.requires.inside c.deref-3.result.now c.in_ok-snapshots.snapshots.items (c.deref-3.ensures.value ∙ are) (c.in_ok-snapshots.ensures ∙ ap (λ hs. map (snapshot_now hs) c.deref-3.result.now) (c.deref-2.ensures.value ∙ c.self.view_is)) in
     let long : c.deref-6.result.now ≡ map {B = ℕ × ℕ} (λ (x : Snapshot). (x.buffer, length x.text)) c.in_ok-snapshots.snapshots.items = c.deref-6.ensures.value ∙ c.in_ok-lengths.ensures ∙ ap (map {B = ℕ × ℕ} (λ (x : Snapshot). (x.buffer, length x.text))) c.deref-4.ensures.value in
-    projection_stock c.args.self.now c.self.inside.graph c.self.inside.counts kept c.args.members.items c.requires.inside c.in_ok-snapshots.snapshots.items found c.deref-6.result.now long c.in_ok-projection.projection (c.in_ok-projection.ensures.buffer ∙ c.in_ok-graph.ensures.number ∙ held_len c.args.self.now c.self.inside.graph c.self.inside.counts kept) (c.in_ok-projection.ensures.versions ∙ ap (λ xs. shown c.in_ok-members.members (versions_of xs) (text_over (text_in xs) c.in_ok-members.members) ∷ []) c.deref-8.ensures.value ∙ ap (λ xs. shown xs (versions_of c.in_ok-snapshots.snapshots.items) (text_over (text_in c.in_ok-snapshots.snapshots.items) xs) ∷ []) c.in_ok-members.ensures.members) c.in_ok-projection.ensures.changes c.in_ok-projection.ensures.resolver c.put.new.self c.in_ok-put.ensures.ok
+    projection_stock c.args.self.now c.self.inside.graph c.self.inside.counts kept c.args.members.items c.requires.inside c.in_ok-snapshots.snapshots.items found c.deref-6.result.now long c.args.resolver c.in_ok-projection.projection (c.in_ok-projection.ensures.buffer ∙ c.in_ok-graph.ensures.number ∙ held_len c.args.self.now c.self.inside.graph c.self.inside.counts kept) (c.in_ok-projection.ensures.versions ∙ ap (λ xs. shown c.in_ok-members.members (versions_of xs) (text_over (text_in xs) c.in_ok-members.members) ∷ []) c.deref-8.ensures.value ∙ ap (λ xs. shown xs (versions_of c.in_ok-snapshots.snapshots.items) (text_over (text_in c.in_ok-snapshots.snapshots.items) xs) ∷ []) c.in_ok-members.ensures.members) c.in_ok-projection.ensures.changes c.in_ok-projection.ensures.resolver c.put.new.self c.in_ok-put.ensures.ok
 
 pub returns-clause-stay : goal.returns-clause-stay
 returns-clause-stay c =

@@ -1,4 +1,4 @@
-use Rattle.std.proofs.Common.{ap, subst}
+use Rattle.std.proofs.Common.{refl, subst}
 use Rattle.ed_risen.specs.Rising.{IsSettled}
 use Rattle.ed_held.specs.Seen.{stock}
 use Rattle.ed_climb.proofs.Committed.{made_known, made_current, made_one, made_stay, made_stock}
@@ -7,23 +7,23 @@ use Rattle.ed_group.proofs.stock.Stock.commit.Goals as goal
 pub returns-clause-stock : goal.returns-clause-stock
 returns-clause-stock c =
     made_stock c.args.self.now _ c.args.group c.requires
-    (made_known c.args.self.now c.self.inside.buffers.items c.deref_mut.result.now c.carry_out.new.buffers c.self.inside.buffers.len c.group.inside.moves.items c.group.inside.turned c.args.group c.self.view_is c.deref_mut.ensures.value c.deref_mut.ensures.len
-    c.carry_out.ensures.len c.carry_out.ensures.known (ap (λ g. g.moves) c.group.view_is) (ap (λ g. g.turned) c.group.view_is))
+    (made_known c.args.self.now c.self.inside.buffers.items c.deref_mut.result.now c.make-graph.new.buffers c.self.inside.buffers.len c.args.group.moves c.args.group.turned c.args.group c.self.view_is c.deref_mut.ensures.value c.deref_mut.ensures.len
+    c.make-graph.ensures.len c.make-graph.ensures.known refl refl)
 
 pub returns-clause-one : goal.returns-clause-one
 returns-clause-one c =
     made_one c.args.self.now _ c.args.group c.requires
-    (made_known c.args.self.now c.self.inside.buffers.items c.deref_mut.result.now c.carry_out.new.buffers c.self.inside.buffers.len c.group.inside.moves.items c.group.inside.turned c.args.group c.self.view_is c.deref_mut.ensures.value c.deref_mut.ensures.len
-    c.carry_out.ensures.len c.carry_out.ensures.known (ap (λ g. g.moves) c.group.view_is) (ap (λ g. g.turned) c.group.view_is))
+    (made_known c.args.self.now c.self.inside.buffers.items c.deref_mut.result.now c.make-graph.new.buffers c.self.inside.buffers.len c.args.group.moves c.args.group.turned c.args.group c.self.view_is c.deref_mut.ensures.value c.deref_mut.ensures.len
+    c.make-graph.ensures.len c.make-graph.ensures.known refl refl)
 
 pub returns-clause-current : goal.returns-clause-current
 returns-clause-current c =
     made_current c.args.self.now _ c.args.group c.requires
-    (made_known c.args.self.now c.self.inside.buffers.items c.deref_mut.result.now c.carry_out.new.buffers c.self.inside.buffers.len c.group.inside.moves.items c.group.inside.turned c.args.group c.self.view_is c.deref_mut.ensures.value c.deref_mut.ensures.len
-    c.carry_out.ensures.len c.carry_out.ensures.known (ap (λ g. g.moves) c.group.view_is) (ap (λ g. g.turned) c.group.view_is))
+    (made_known c.args.self.now c.self.inside.buffers.items c.deref_mut.result.now c.make-graph.new.buffers c.self.inside.buffers.len c.args.group.moves c.args.group.turned c.args.group c.self.view_is c.deref_mut.ensures.value c.deref_mut.ensures.len
+    c.make-graph.ensures.len c.make-graph.ensures.known refl refl)
 
 pub returns-clause-stay : goal.returns-clause-stay
 returns-clause-stay c =
     made_stay c.args.self.now _ c.args.group c.requires
-    (made_known c.args.self.now c.self.inside.buffers.items c.deref_mut.result.now c.carry_out.new.buffers c.self.inside.buffers.len c.group.inside.moves.items c.group.inside.turned c.args.group c.self.view_is c.deref_mut.ensures.value c.deref_mut.ensures.len
-    c.carry_out.ensures.len c.carry_out.ensures.known (ap (λ g. g.moves) c.group.view_is) (ap (λ g. g.turned) c.group.view_is)) (subst (λ hs. IsSettled (stock hs)) c.self.view_is c.self.invariant.settled)
+    (made_known c.args.self.now c.self.inside.buffers.items c.deref_mut.result.now c.make-graph.new.buffers c.self.inside.buffers.len c.args.group.moves c.args.group.turned c.args.group c.self.view_is c.deref_mut.ensures.value c.deref_mut.ensures.len
+    c.make-graph.ensures.len c.make-graph.ensures.known refl refl) (subst (λ hs. IsSettled (stock hs)) c.self.view_is c.self.invariant.settled)
