@@ -7,3 +7,5 @@ pub mod Answers
 pub mod Placed
 pub mod Spanning
 pub mod Begun
+pub use Rattle.ed_descent.specs.Edits
+pub use Rattle.ed_landing.specs.EditedStock

@@ -2,6 +2,7 @@
 #![tactic(auto)]
 
 mod adding;
+mod editing;
 mod listing;
 mod making;
 mod placing;
@@ -12,4 +13,5 @@ mod spans;
 mod stock;
 
 pub use ed_climb::{Group, PlanFault};
+pub use ed_landing::BufferEdit;
 pub use stock::Stock;

@@ -4,3 +4,4 @@ pub mod OneMore
 pub mod Visits
 pub mod Boxed
 pub mod Ended
+pub mod Beginning

@@ -1,6 +1,5 @@
 //! Edits of any buffers, as the first versions of a group.
-ghost use Rattle.std.specs.Prelude.{◌≡◌, ◌+◌, ◌<◌, ◌≤◌, ◌^◌, All, Err, IfOk, MatchResult, length, map};
-ghost use Rattle.ed_base.specs.ChangeList.{inserted_len};
+ghost use Rattle.std.specs.Prelude.{◌≡◌, ℕ, ◌+◌, ◌<◌, ◌≤◌, ◌^◌, false, All, Err, IfOk, MatchResult, length, map};
 ghost use Rattle.ed_callbacks.specs.HookLists.{hook_table};
 ghost use Rattle.ed_climb.specs.Begins.{LeadsTo};
 ghost use Rattle.ed_climb.specs.Kept.{IsKept};
@@ -9,7 +8,8 @@ ghost use Rattle.ed_climb.specs.declared.counts.Counts.{Counts};
 ghost use Rattle.ed_descent.specs.Edits.{own_units, units_of_carriers};
 ghost use Rattle.ed_held.specs.Seen.{known, stock};
 ghost use Rattle.ed_landing.specs.EditedStock.{edits_fault, edits_landed, told};
-ghost use Rattle.ed_stock.specs.Stock.{count, text_now};
+ghost use Rattle.ed_layers.specs.Records.{is_carrier};
+ghost use Rattle.ed_stock.specs.Stock.{count, record_now, text_now};
 
 use crate::landings::land_all;
 use ed_climb::{FirstMoves, PlanFault};
@@ -48,7 +48,7 @@ pub fn begun(
     requires there { All (λ e. e.buffer < count (stock buffers.old)) edits.now }
     requires from { All (λ e. e.changes.old_len ≡ length (text_now (stock buffers.old) e.buffer)) edits.now }
     requires carriers { units_of_carriers (stock buffers.old) edits.now ≤ 2 ^ 22 }
-    requires bases { (b : ℕ) → own_units edits.now b + units_of_carriers (stock buffers.old) edits.now ≤ 2 ^ 27 }
+    requires bases { (b : ℕ) → is_carrier (record_now (stock buffers.old) b) ≡ false → own_units edits.now b + units_of_carriers (stock buffers.old) edits.now ≤ 2 ^ 27 }
     ensures same { map known buffers.new ≡ map known buffers.old }
     ensures fault { MatchResult result (λ f. Unit {0}) (λ e. Refuses {X = Unit {0}} (edits_fault (hook_table hooks.now) (stock buffers.old) edits.now) (Err e)) }
     ensures leads { IfOk result (LeadsTo buffers.new (edits_fault (hook_table hooks.now) (stock buffers.old) edits.now) (edits_landed (hook_table hooks.now) (stock buffers.old) edits.now)) }
