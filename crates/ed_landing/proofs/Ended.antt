@@ -50,8 +50,8 @@ module _ (hooks : HookTable) (hs : List Held) (graph : List (List ℕ)) (on : St
   ends_long n so_far =
       let f : IsFirstLong s pending (count s) n = so_far.going in
       let limits : first_some (stock_limits (landed s pending none_given none_given).stock) ≡ Some (Refusal.Limit Which.Units n) =
-          long_refused s graph on.settled on.levelled on.as_long on.names pending (few_buffers s on.within) short f.b f.below f.is (subst (λ m. 2 ^ 22 < m) (sym f.len) f.long) f.earlier
-          ∙ ap (λ m. Some (Refusal.Limit Which.Units m)) f.len in
+      long_refused s graph on.settled on.levelled on.as_long on.names pending (few_buffers s on.within) short f.b f.below f.is (subst (λ m. 2 ^ 22 < m) (sym f.len) f.long) f.earlier
+      ∙ ap (λ m. Some (Refusal.Limit Which.Units m)) f.len in
       let none : denial hooks s pending ≡ None = so_far.allowed in
       subst (λ (o : Option Refusal). Refuses {X = Unit {0}} o (Err (PlanFault.Refused (Refusal.Limit Which.Units n))))
       (sym (ap (λ (o : Option Refusal). first_some (o ∷ first_some (stock_limits (landed s pending none_given none_given).stock) ∷ [])) none ∙ ap (λ (o : Option Refusal). first_some (None ∷ o ∷ [])) limits)) (inl refl)

@@ -247,4 +247,4 @@ module _ (hooks : HookTable) (hs : List Held) (graph : List (List ℕ)) (on : St
       denied_on hs'' ms' region (inr fault) =
           let d : first_denied hooks x.regions.regions (chain.now x.chain.versions) left.changes ≡ Some region = region_of (first_denied hooks x.regions.regions (chain.now x.chain.versions) left.changes) (too_long left) region (never left) fault.0 in
           subst (λ (o : Option Refusal). Refuses {X = Unit {0}} (first_some (o ∷ first_some (stock_limits (landed s pending none_given none_given).stock) ∷ [])) (Err (PlanFault.Refused (Refusal.ReadOnly k region))))
-              (sym (denied_here hooks s pending k region there is (denied_is ∙ d) so_far.allowed)) (inl refl)
+          (sym (denied_here hooks s pending k region there is (denied_is ∙ d) so_far.allowed)) (inl refl)

@@ -12,9 +12,9 @@ ghost use Rattle.ed_layers.specs.Records.{is_carrier};
 ghost use Rattle.ed_stock.specs.Stock.{count, record_now, text_now};
 
 use crate::landings::land_all;
+use ed_callbacks::Hooks;
 use ed_climb::{FirstMoves, PlanFault};
 use ed_descent::{BufferEdit, DescentFault, sent_down};
-use ed_callbacks::Hooks;
 use ed_graph::Graph;
 use ed_held::Held;
 use std::alloc::Global;

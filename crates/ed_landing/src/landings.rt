@@ -24,11 +24,7 @@ use std::alloc::Global;
 
 /// What a fault of a base comes to: a text that would be too long is told when all have been looked
 /// at, the first one.
-fn after(
-    buffer: BufferNo,
-    fault: BaseFault,
-    long: Option<u64>,
-) -> Result<Option<u64>, PlanFault>
+fn after(buffer: BufferNo, fault: BaseFault, long: Option<u64>) -> Result<Option<u64>, PlanFault>
     ensures { result ≡ after_fault buffer long fault }
 {
     match fault {

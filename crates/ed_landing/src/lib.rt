@@ -8,4 +8,3 @@ mod landings;
 
 pub use ed_descent::BufferEdit;
 pub use edits::begun;
-
