@@ -28,3 +28,4 @@ pub mod TurnedKept
 pub mod Groups
 pub mod EditBegins
 pub mod SpansBegins
+pub mod Judged

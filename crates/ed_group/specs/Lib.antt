@@ -13,3 +13,4 @@ pub mod Editing
 pub mod Spanning
 pub mod Begun
 pub mod Begins
+pub mod Judging

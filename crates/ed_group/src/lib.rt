@@ -10,6 +10,7 @@ mod editing;
 mod fault;
 mod group;
 mod grouping;
+mod judging;
 mod limits;
 mod listing;
 mod making;
