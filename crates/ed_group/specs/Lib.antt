@@ -14,3 +14,4 @@ pub mod Spanning
 pub mod Begun
 pub mod Begins
 pub mod Judging
+pub mod Edits

@@ -1,6 +1,7 @@
 //! New buffers.
 ghost use Rattle.std.specs.Prelude.{◌≡◌, ◌+◌, ◌<◌, ◌≤◌, ◌^◌, ◌++◌, ◌∷◌, [], All, length, map, None, IfOk, OnOk, OnErr};
 ghost use Rattle.ed_stock.specs.Stock.{count};
+ghost use Rattle.ed_stock.specs.Making.{projection_of, with_new};
 ghost use Rattle.ed_group.specs.Answers.{LiesIn, Refuses, base_fault, projection_fault, with_base, with_projection};
 ghost use Rattle.ed_group.specs.Kept.{IsKept};
 ghost use Rattle.ed_risen.specs.Laws.{RecordsStay};
@@ -13,7 +14,7 @@ use crate::limits::new_limit;
 use crate::listing::{lengths, newest_all, sources_in, tracked};
 use crate::placing::{joined, placed};
 use crate::stock::Stock;
-use ed_base::{BufferNo, Member, OutOfMemory, Refusal, Unit};
+use ed_base::{BufferNo, Member, Name, OutOfMemory, Refusal, Unit};
 use ed_buffer::Base;
 use ed_graph::Graph;
 use ed_held::Held;
@@ -87,7 +88,23 @@ impl Stock {
         &mut self,
         alloc: Global,
         members: Vec<Member>,
+        resolver: Option<Name>,
     ) -> Result<BufferNo, PlanFault>
+        requires inside { All (LiesIn (stock self.old)) members.items }
+        ensures fault { Refuses (projection_fault (stock self.old) members.items) result }
+        ensures number { IfOk result (λ b. b ≡ count (stock self.old)) }
+        ensures ok { OnOk result (stock self.new ≡ with_new (stock self.old) (projection_of (stock self.old) members.items) resolver) }
+        ensures err { OnErr result (stock self.new ≡ stock self.old) }
+        ensures stay { RecordsStay (stock self.old) (stock self.new) }
+    {
+        // A stand-in: with a resolver it always wants memory.
+        match resolver {
+            None => self.add_plain(alloc, members),
+            Some(_) => Err(PlanFault::OutOfMemory),
+        }
+    }
+
+    fn add_plain(&mut self, alloc: Global, members: Vec<Member>) -> Result<BufferNo, PlanFault>
         requires inside { All (LiesIn (stock self.old)) members.items }
         ensures fault { Refuses (projection_fault (stock self.old) members.items) result }
         ensures number { IfOk result (λ b. b ≡ count (stock self.old)) }

@@ -15,6 +15,7 @@ mod limits;
 mod listing;
 mod making;
 mod placing;
+mod planning;
 mod reading;
 mod regions;
 mod rising;
@@ -25,4 +26,5 @@ mod stock;
 
 pub use fault::PlanFault;
 pub use group::Group;
+pub use planning::BufferEdit;
 pub use stock::Stock;

@@ -18,7 +18,7 @@ use Rattle.ed_group.proofs.Based.{held_count, held_few, held_len, refuses_none, 
 use Rattle.ed_group.proofs.Projected.{projection_stock, held_placements, passed_on, same_args, fault_first, fault_second, fault_third, have_all, projection_put, refuses_memory, snaps_held, sources_within}
 use Rattle.ed_group.proofs.Snapshots.{snaps}
 use Rattle.ed_group.proofs.Lasting.{others_stay}
-use Rattle.ed_group.proofs.stock.Stock.add_projection.Goals as goal
+use Rattle.ed_group.proofs.stock.Stock.add_plain.Goals as goal
 
 pub newest_all-requires : goal.newest_all-requires
 newest_all-requires c =
