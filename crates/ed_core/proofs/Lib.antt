@@ -13,6 +13,8 @@ pub mod Names
 pub mod Deciding
 pub mod Places
 pub mod Asking
+pub mod Nothing
+pub mod Resolvers
 pub mod Commands
 pub mod Reaching
 pub mod Normalised

@@ -74,12 +74,12 @@ module _ {X : Type 0} (reply : X → Reply) (s : State) (f : Option Refusal) (o 
 -- ---- of a state that is seen in another way
 
 -- a new buffer, whose name was put behind the others before
-module _ (v s : State) (e : v ≡ s) (within : IsWithin v) (named : length v.names ≡ count v) (name : List ℕ) (r : State → Record) (f : State → Option Refusal) (t : Stock) (ns ms : List (List ℕ)) (x : Result ℕ PlanFault)
-    (passes : f v ≡ None → first_some (stock_limits (with_new v.stock (r v) None)) ≡ None)
-    (fault : Refuses (f v) x) (number : IfOk x (λ b. b ≡ count v)) (ok : OnOk x (t ≡ with_new v.stock (r v) None)) (err : OnErr x (t ≡ v.stock))
+module _ (v s : State) (e : v ≡ s) (within : IsWithin v) (named : length v.names ≡ count v) (name : List ℕ) (r : State → Record) (resolver : Option (List ℕ)) (f : State → Option Refusal) (t : Stock) (ns ms : List (List ℕ)) (x : Result ℕ PlanFault)
+    (passes : f v ≡ None → first_some (stock_limits (with_new v.stock (r v) resolver)) ≡ None)
+    (fault : Refuses (f v) x) (number : IfOk x (λ b. b ≡ count v)) (ok : OnOk x (t ≡ with_new v.stock (r v) resolver)) (err : OnErr x (t ≡ v.stock))
     (more : ns ≡ v.names ++ name ∷ []) (n : ℕ) (were : n ≡ length v.names) (kept : OnOk x (ms ≡ ns)) (gone : OnErr x (ms ≡ take n ns)) where
   abbrev new : State → Outcome
-  new u = made u name (r u)
+  new u = made u name (r u) resolver
 
   abbrev after : State
   after = record { stock = t; names = ms; answered = v.answered }
@@ -87,7 +87,7 @@ module _ (v s : State) (e : v ≡ s) (within : IsWithin v) (named : length v.nam
   first-part : take n (v.names ++ name ∷ []) ≡ v.names
   first-part = ap (λ k. take k (v.names ++ name ∷ [])) were ∙ take-append_seam v.names (name ∷ [])
 
-  by_answer : (y : Result ℕ PlanFault) → Refuses (f v) y → IfOk y (λ b. b ≡ count v) → OnOk y (t ≡ with_new v.stock (r v) None) → OnErr y (t ≡ v.stock) → OnOk y (ms ≡ ns) → OnErr y (ms ≡ take n ns) → Settled Reply.Made v (f v) (new v) after y
+  by_answer : (y : Result ℕ PlanFault) → Refuses (f v) y → IfOk y (λ b. b ≡ count v) → OnOk y (t ≡ with_new v.stock (r v) resolver) → OnErr y (t ≡ v.stock) → OnOk y (ms ≡ ns) → OnErr y (ms ≡ take n ns) → Settled Reply.Made v (f v) (new v) after y
   by_answer (Ok b) h is made none keeps none' = record {
     fault = h;
     reply = ap Reply.Made is;
@@ -105,23 +105,23 @@ module _ (v s : State) (e : v ≡ s) (within : IsWithin v) (named : length v.nam
   answered = by_answer x fault number ok err kept gone
 
   new-within : f v ≡ None → IsWithin (new v).state
-  new-within none = record { stock = passes none; regions = few-new v.stock (r v) None within.regions; answered = within.answered }
+  new-within none = record { stock = passes none; regions = few-new v.stock (r v) resolver within.regions; answered = within.answered }
 
   pub added-within : IsWithin after
   added-within = settled-within Reply.Made v (f v) (new v) after x answered within new-within
 
-  counted : (y : Result ℕ PlanFault) → OnOk y (t ≡ with_new v.stock (r v) None) → OnErr y (t ≡ v.stock) → OnOk y (ms ≡ ns) → OnErr y (ms ≡ take n ns) → length ms ≡ stock.count t
+  counted : (y : Result ℕ PlanFault) → OnOk y (t ≡ with_new v.stock (r v) resolver) → OnErr y (t ≡ v.stock) → OnOk y (ms ≡ ns) → OnErr y (ms ≡ take n ns) → length ms ≡ stock.count t
   counted (Ok b) made none keeps none' = ap length (keeps ∙ more) ∙ (length-append v.names (name ∷ []) ∙ (ap (λ n. n + 1) named ∙ (sym (length-append v.stock.buffers _) ∙ ap stock.count (sym made))))
   counted (Err q) made none keeps none' = ap length (none' ∙ (ap (take n) more ∙ first-part)) ∙ (named ∙ ap stock.count (sym none))
 
   pub added-count : length ms ≡ stock.count t
   added-count = counted x ok err kept gone
 
-  pub added-reply : {E : Type 0} (final : Result Reply E) → IfOk final (λ a. Some a ≡ buffer_told x) → IfOk final (λ a. a ≡ (or_refused s (f s) (made s name (r s))).reply)
-  added-reply final told = subst (λ (u : State). IfOk final (λ a. a ≡ (or_refused u (f u) (made u name (r u))).reply)) e (settled-reply Reply.Made v (f v) (new v) after final x answered told)
+  pub added-reply : {E : Type 0} (final : Result Reply E) → IfOk final (λ a. Some a ≡ buffer_told x) → IfOk final (λ a. a ≡ (or_refused s (f s) (made s name (r s) resolver)).reply)
+  added-reply final told = subst (λ (u : State). IfOk final (λ a. a ≡ (or_refused u (f u) (made u name (r u) resolver)).reply)) e (settled-reply Reply.Made v (f v) (new v) after final x answered told)
 
-  pub added-state : {E : Type 0} (final : Result Reply E) → IfOk final (λ a. Some a ≡ buffer_told x) → OnOk final (after ≡ (or_refused s (f s) (made s name (r s))).state)
-  added-state final told = subst (λ (u : State). OnOk final (after ≡ (or_refused u (f u) (made u name (r u))).state)) e (settled-state Reply.Made v (f v) (new v) after final x answered told)
+  pub added-state : {E : Type 0} (final : Result Reply E) → IfOk final (λ a. Some a ≡ buffer_told x) → OnOk final (after ≡ (or_refused s (f s) (made s name (r s) resolver)).state)
+  added-state final told = subst (λ (u : State). OnOk final (after ≡ (or_refused u (f u) (made u name (r u) resolver)).state)) e (settled-state Reply.Made v (f v) (new v) after final x answered told)
 
   pub added-err : {E : Type 0} (final : Result Reply E) → OnErr final (buffer_told x ≡ None) → OnErr final (after ≡ s)
   added-err final none = subst (λ (u : State). OnErr final (after ≡ u)) e (settled-err Reply.Made v (f v) (new v) after final x answered none)

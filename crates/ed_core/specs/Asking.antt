@@ -1,5 +1,5 @@
 -- What is asked for before the stock decides.
-use Rattle.std.specs.Prelude.{ℕ, ◌+◌, ◌<◌, List, [], ◌∷◌, length, map, Option, Some, None, option_map, option_and_then}
+use Rattle.std.specs.Prelude.{ℕ, ◌+◌, ◌<◌, ◌^◌, List, [], ◌∷◌, length, map, Option, Some, None, option_map, option_and_then, if◌then◌else◌}
 use Rattle.ed_base.specs.declared.Member.{Member}
 use Rattle.ed_base.specs.declared.Refusal.{Refusal}
 use Rattle.ed_base.specs.declared.Replace.{Replace}
@@ -10,11 +10,11 @@ use Rattle.ed_base.specs.Numbers.{first_some}
 use Rattle.ed_base.specs.ChangeList.{normal_form}
 use Rattle.ed_base.specs.Spans.{end_of}
 use Rattle.ed_change.specs.declared.ChangeFault.{ChangeFault}
-use Rattle.ed_layers.specs.Records.{members_of}
+use Rattle.ed_layers.specs.Records.{is_carrier, members_of}
 use Rattle.ed_entry.specs.declared.Reply.{Reply}
 use Rattle.ed_machine.specs.State.{State, number_of, count, record_now}
 use Rattle.ed_machine.specs.Accepted.{Outcome}
-use Rattle.ed_machine.specs.Refusals.{wrong_kind, is_base, is_projection, stale, past, past_now, len_now}
+use Rattle.ed_machine.specs.Refusals.{wrong_kind, is_projection, stale, past, past_now, len_now}
 use Rattle.ed_machine.specs.Step.{or_refused}
 use Rattle.ed_core.specs.Deciding.{changes_outcome}
 
@@ -48,9 +48,6 @@ past_members s members = first_some (map (past_member s) members)
 
 -- ---- what is refused before
 
-abbrev pub edit_refusal : State → ℕ → Option ℕ → Option Refusal
-edit_refusal s b at = first_some (wrong_kind s b is_base ∷ stale s b at ∷ [])
-
 abbrev pub spans_refusal : State → ℕ → Option ℕ → ℕ → List Member → Option Refusal
 spans_refusal s b at end members = first_some (wrong_kind s b is_projection ∷ stale s b at ∷ past (end ∷ []) (length (members_of (record_now s b))) ∷ past_members s members ∷ [])
 
@@ -59,6 +56,10 @@ abbrev pub form_told : ChangeFault → Option Reply
 form_told (ChangeFault.OutOfRange end len) = Some (Reply.Refused (Refusal.OutOfRange end len))
 form_told ChangeFault.OutOfMemory = None
 
--- an edit of a base that is up to date
+-- the most units that one edit of a buffer puts in
+abbrev pub most_put_in : State → ℕ → ℕ
+most_put_in s b = if is_carrier (record_now s b) then 2 ^ 22 else 2 ^ 27
+
+-- an edit of a buffer that is up to date
 abbrev pub replaces_outcome : HookTable → State → ℕ → List Replace → Outcome
 replaces_outcome hooks s b replaces = or_refused s (past (map (λ r. r.start + r.len) replaces) (len_now s b)) (changes_outcome hooks s b (normal_form replaces (len_now s b)))

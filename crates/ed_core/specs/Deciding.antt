@@ -7,7 +7,9 @@ use Rattle.ed_base.specs.Hooks.{HookTable}
 use Rattle.ed_layers.specs.Records.{base}
 use Rattle.ed_stock.specs.Making.{projection_of, spans_set}
 use Rattle.ed_group.specs.declared.PlanFault.{PlanFault}
-use Rattle.ed_group.specs.Answers.{base_fault, projection_fault, spans_fault, edit_fault, edit_landed}
+use Rattle.ed_group.specs.declared.BufferEdit.{BufferEdit}
+use Rattle.ed_group.specs.Answers.{base_fault, projection_fault, spans_fault}
+use Rattle.ed_group.specs.EditedStock.{edits_fault, edits_landed}
 use Rattle.ed_climb.specs.Group.{Plan}
 use Rattle.ed_entry.specs.declared.Reply.{Reply}
 use Rattle.ed_machine.specs.State.{State}
@@ -36,15 +38,19 @@ group_told planned = told edited planned
 -- ---- new buffers
 
 abbrev pub base_outcome : State → List ℕ → List ℕ → Outcome
-base_outcome s name text = or_refused s (base_fault s.stock text) (made s name (base text 0))
+base_outcome s name text = or_refused s (base_fault s.stock text) (made s name (base text 0) None)
 
-abbrev pub projection_outcome : State → List ℕ → List Member → Outcome
-projection_outcome s name members = or_refused s (projection_fault s.stock members) (made s name (projection_of s.stock members))
+abbrev pub projection_outcome : State → List ℕ → List Member → Option (List ℕ) → Outcome
+projection_outcome s name members resolver = or_refused s (projection_fault s.stock members) (made s name (projection_of s.stock members) resolver)
 
 -- ---- new versions
 
+-- an edit of one buffer alone
+abbrev pub one_edit : ℕ → ChangeList → List BufferEdit
+one_edit b c = record { buffer = b; changes = c } ∷ []
+
 abbrev pub edit_outcome : HookTable → State → ℕ → ChangeList → Outcome
-edit_outcome hooks s b c = or_refused s (edit_fault hooks s.stock b c) (edited_to s (edit_landed s.stock b c))
+edit_outcome hooks s b c = or_refused s (edits_fault hooks s.stock (one_edit b c)) (edited_to s (edits_landed hooks s.stock (one_edit b c)))
 
 -- a change list without a change makes no version
 abbrev pub changes_outcome : HookTable → State → ℕ → ChangeList → Outcome

@@ -1,14 +1,13 @@
-//! Edits of bases.
-ghost use Rattle.std.specs.Prelude.{◌≡◌, ◌+◌, ◌<◌, ◌≤◌, ◌^◌, false, length, None, Some, IfOk, OnOk, OnErr};
+//! Edits of buffers.
+ghost use Rattle.std.specs.Prelude.{◌≡◌, ◌+◌, ◌<◌, ◌≤◌, ◌^◌, length, None, Some, IfOk, OnOk, OnErr};
 ghost use Rattle.ed_base.specs.ChangeList.{inserted_len};
 ghost use Rattle.ed_callbacks.specs.HookLists.{hook_table};
 ghost use Rattle.ed_risen.specs.Laws.{RecordsStay};
-ghost use Rattle.ed_layers.specs.Records.{is_carrier};
-ghost use Rattle.ed_machine.specs.State.{count, record_now, text_now};
+ghost use Rattle.ed_machine.specs.State.{count, text_now};
 ghost use Rattle.ed_machine.specs.Refusals.{len_now, stale};
 ghost use Rattle.ed_machine.specs.Step.{told};
 ghost use Rattle.ed_script.specs.declared.Command.{Command as Told};
-ghost use Rattle.ed_core.specs.Asking.{edit_refusal, form_told, replaces_outcome};
+ghost use Rattle.ed_core.specs.Asking.{form_told, most_put_in, replaces_outcome};
 ghost use Rattle.ed_core.specs.Deciding.{changes_outcome};
 ghost use Rattle.ed_core.specs.Doing.{Does};
 ghost use Rattle.ed_core.specs.Within.{IsWithin};
@@ -21,9 +20,13 @@ use ed_base::{
 use ed_callbacks::Hooks;
 use ed_change::{ChangeFault, normalise, puts_in_at_most};
 use ed_entry::Reply;
+use ed_group::BufferEdit;
 
-/// The most units that one edit puts in.
-const MOST_PUT_IN: u64 = 1 << 27;
+/// The most units that one edit of a base puts in.
+const MOST_INTO_BASE: u64 = 1 << 27;
+
+/// The most units that one edit of a buffer over others puts in.
+const MOST_INTO_CARRIER: u64 = 1 << 22;
 
 /// The reply to replaces that have no change list.
 fn unformed(fault: ChangeFault) -> Result<Reply, OutOfMemory>
@@ -61,31 +64,30 @@ impl Core {
         self.stock.text_len(buffer, self.stock.now(buffer))
     }
 
-    /// Why a buffer isn't edited, but for what its replaces are.
-    fn edit_refusal(&self, buffer: BufferNo, at: &Option<VersionNo>) -> Option<Refusal>
+    /// The most units that one edit of a buffer puts in.
+    fn most_put_in(&self, buffer: BufferNo) -> u64
         requires { buffer < count self.now }
-        ensures refusal { result ≡ edit_refusal self.now buffer at.now }
-        ensures base { result ≡ None → is_carrier (record_now self.now buffer) ≡ false }
+        ensures { result ≡ most_put_in self.now buffer }
     {
-        if !self.is_base(buffer) {
-            return Some(Refusal::WrongKind);
+        if self.is_base(buffer) {
+            MOST_INTO_BASE
+        } else {
+            MOST_INTO_CARRIER
         }
-        self.stale(buffer, at)
     }
 
-    /// Edits the current text of a base by changes of it.
+    /// Edits the current text of a buffer by changes of it.
     fn land_changes(
         &mut self,
         hooks: &Hooks,
         buffer: BufferNo,
-        changes: &Changes,
+        changes: Changes,
     ) -> Result<Reply, OutOfMemory>
         requires there { buffer < count self.old }
-        requires base { is_carrier (record_now self.old buffer) ≡ false }
-        requires from { changes.now.old_len ≡ length (text_now self.old buffer) }
-        requires put_in { inserted_len changes.now ≤ 2 ^ 27 }
-        ensures reply { IfOk result (λ r. r ≡ (changes_outcome (hook_table hooks.now) self.old buffer changes.now).reply) }
-        ensures state { OnOk result (self.new ≡ (changes_outcome (hook_table hooks.now) self.old buffer changes.now).state) }
+        requires from { changes.old_len ≡ length (text_now self.old buffer) }
+        requires put_in { inserted_len changes ≤ most_put_in self.old buffer }
+        ensures reply { IfOk result (λ r. r ≡ (changes_outcome (hook_table hooks.now) self.old buffer changes).reply) }
+        ensures state { OnOk result (self.new ≡ (changes_outcome (hook_table hooks.now) self.old buffer changes).state) }
         ensures err { OnErr result (self.new ≡ self.old) }
         ensures stay { RecordsStay self.old.stock self.new.stock }
     {
@@ -93,19 +95,19 @@ impl Core {
             let versions = VersionList::empty();
             return Ok(Reply::Edited { versions });
         }
-        let planned = self.stock.plan_edit(self.alloc, hooks, buffer, changes);
+        let edits = [BufferEdit { buffer, changes }];
+        let planned = self.stock.plan(self.alloc, hooks, &edits);
         land(&mut self.stock, planned)
     }
 
-    /// Edits the current text of a base by replaces.
-    fn edit_base(
+    /// Edits the current text of a buffer by replaces.
+    fn edit_text(
         &mut self,
         hooks: &Hooks,
         buffer: BufferNo,
         replaces: &[Replace],
     ) -> Result<Reply, OutOfMemory>
         requires there { buffer < count self.old }
-        requires base { is_carrier (record_now self.old buffer) ≡ false }
         ensures reply { IfOk result (λ r. r ≡ (replaces_outcome (hook_table hooks.now) self.old buffer replaces.now).reply) }
         ensures state { OnOk result (self.new ≡ (replaces_outcome (hook_table hooks.now) self.old buffer replaces.now).state) }
         ensures err { OnErr result (self.new ≡ self.old) }
@@ -113,16 +115,16 @@ impl Core {
         ensures within { IsWithin self.old }
     {
         let now_len = self.len_now(buffer);
-        if !puts_in_at_most(replaces, MOST_PUT_IN) {
+        if !puts_in_at_most(replaces, self.most_put_in(buffer)) {
             return Err(OutOfMemory);
         }
         match normalise(self.alloc, now_len, replaces) {
-            Ok(changes) => self.land_changes(hooks, buffer, &changes),
+            Ok(changes) => self.land_changes(hooks, buffer, changes),
             Err(fault) => unformed(fault),
         }
     }
 
-    /// Edits a base.
+    /// Edits a buffer.
     pub(crate) fn edit(
         &mut self,
         hooks: &Hooks,
@@ -135,9 +137,9 @@ impl Core {
         let Some(buffer) = self.number_of(name) else {
             return Ok(Reply::Refused(Refusal::NoBuffer));
         };
-        if let Some(refusal) = self.edit_refusal(buffer, at) {
+        if let Some(refusal) = self.stale(buffer, at) {
             return Ok(Reply::Refused(refusal));
         }
-        self.edit_base(hooks, buffer, replaces.as_slice())
+        self.edit_text(hooks, buffer, replaces.as_slice())
     }
 }

@@ -1,9 +1,12 @@
 //! New buffers.
-ghost use Rattle.std.specs.Prelude.{◌≡◌, ◌++◌, ◌∷◌, [], None, Some, All, IfOk, OnOk, OnErr, false, is_some, position, take};
+ghost use Rattle.std.specs.Prelude.{◌≡◌, ◌++◌, ◌∷◌, [], None, Some, All, IfOk, OnOk, OnErr, false, is_some, position, take, unwrap_or};
 ghost use Rattle.std.specs.Str.{bytes_eq};
 ghost use Rattle.ed_base.specs.Hooks.{HookTable};
+ghost use Rattle.ed_callbacks.specs.HookLists.{hook_table};
 ghost use Rattle.ed_group.specs.Answers.{LiesIn};
+ghost use Rattle.ed_group.specs.Judging.{standing_fault};
 ghost use Rattle.ed_risen.specs.Laws.{RecordsStay};
+ghost use Rattle.ed_machine.specs.Refusals.{no_hook};
 ghost use Rattle.ed_machine.specs.State.{number_of};
 ghost use Rattle.ed_machine.specs.Step.{told};
 ghost use Rattle.ed_script.specs.declared.Command.{Command as Told};
@@ -12,8 +15,10 @@ ghost use Rattle.ed_core.specs.Doing.{Does};
 ghost use Rattle.ed_core.specs.Within.{IsWithin};
 
 use crate::landing::unplanned;
+use crate::ruling::shared;
 use crate::state::Core;
-use ed_base::{BufferNo, Member, Name, OutOfMemory, Refusal, ScriptSpanList, Unit, Units};
+use ed_base::{BufferNo, Member, Name, OutOfMemory, Refusal, ScriptSpanList, Unit, Units, What};
+use ed_callbacks::Hooks;
 use ed_entry::Reply;
 use ed_group::PlanFault;
 use indexmap::IndexSet;
@@ -48,6 +53,19 @@ fn settle(
     }
 }
 
+/// The refusal of a resolver that isn't there.
+fn no_resolver(hooks: &Hooks, resolver: &Option<Name>) -> Option<Refusal>
+    ensures { result ≡ no_hook (hook_table hooks.now).resolvers resolver.now }
+{
+    match resolver {
+        Some(name) if !hooks.has_resolver(name.as_str()) => {
+            let what = What::Hook;
+            Some(Refusal::NoSuch { what })
+        }
+        _ => None,
+    }
+}
+
 impl Core {
     /// Adds a base under a name that isn't taken.
     fn add_base(&mut self, name: Name, text: &[Unit]) -> Result<Reply, OutOfMemory>
@@ -65,18 +83,23 @@ impl Core {
     }
 
     /// Adds a projection under a name that isn't taken. Its members lie inside their sources.
-    fn add_projection(&mut self, name: Name, members: Vec<Member>) -> Result<Reply, OutOfMemory>
+    fn add_projection(
+        &mut self,
+        name: Name,
+        members: Vec<Member>,
+        resolver: Option<Name>,
+    ) -> Result<Reply, OutOfMemory>
         requires new { is_some (number_of self.old name) ≡ false }
         requires inside { All (LiesIn self.old.stock) members.items }
-        ensures reply { IfOk result (λ r. r ≡ (projection_outcome self.old name members.items).reply) }
-        ensures state { OnOk result (self.new ≡ (projection_outcome self.old name members.items).state) }
+        ensures reply { IfOk result (λ r. r ≡ (projection_outcome self.old name members.items resolver).reply) }
+        ensures state { OnOk result (self.new ≡ (projection_outcome self.old name members.items resolver).state) }
         ensures err { OnErr result (self.new ≡ self.old) }
         ensures stay { RecordsStay self.old.stock self.new.stock }
         ensures within { IsWithin self.old }
     {
         let before = self.names.len();
         add_name(&mut self.names, name)?;
-        let added = self.stock.add_projection(self.alloc, members);
+        let added = self.stock.add_projection(self.alloc, members, resolver);
         settle(&mut self.names, before, added)
     }
 
@@ -91,13 +114,27 @@ impl Core {
         self.add_base(kept, text.as_slice())
     }
 
+    /// Why a projection isn't made whose resolver isn't there: its members are judged first.
+    fn unresolved(&self, members: Vec<Member>, missing: Refusal) -> Result<Refusal, OutOfMemory>
+        requires inside { All (LiesIn self.now.stock) members.items }
+        ensures { IfOk result (λ r. r ≡ unwrap_or (standing_fault self.now.stock members.items) missing) }
+    {
+        match self.stock.judge_projection(self.alloc, members) {
+            Ok(()) => Ok(missing),
+            Err(PlanFault::Refused(refusal)) => Ok(refusal),
+            Err(PlanFault::OutOfMemory) => Err(OutOfMemory),
+        }
+    }
+
     /// Makes a projection that shows these members.
     pub(crate) fn make_projection(
         &mut self,
+        hooks: &Hooks,
         name: &Name,
         spans: &ScriptSpanList,
+        resolver: &Option<Name>,
     ) -> Result<Reply, OutOfMemory>
-        ensures { (hooks : HookTable) → Does (told hooks self.old (Told.Projection name.now spans.now)) self.old self.new result }
+        ensures { Does (told (hook_table hooks.now) self.old (Told.Projection name.now spans.now resolver.now)) self.old self.new result }
     {
         let Some(members) = self.members(spans.as_slice())? else {
             return Ok(Reply::Refused(Refusal::NoBuffer));
@@ -108,7 +145,11 @@ impl Core {
         if let Some(refusal) = self.past_members(members.as_slice()) {
             return Ok(Reply::Refused(refusal));
         }
-        let kept = name.share()?;
-        self.add_projection(kept, members)
+        if let Some(missing) = no_resolver(hooks, resolver) {
+            let refusal = self.unresolved(members, missing)?;
+            return Ok(Reply::Refused(refusal));
+        }
+        let (kept, resolver) = (name.share()?, shared(resolver)?);
+        self.add_projection(kept, members, resolver)
     }
 }

@@ -38,7 +38,7 @@ fn region_reply(added: Result<RegionNo, RegionFault>) -> Result<Reply, OutOfMemo
 }
 
 /// A further holder of a name that may be absent.
-fn shared(name: &Option<Name>) -> Result<Option<Name>, OutOfMemory>
+pub fn shared(name: &Option<Name>) -> Result<Option<Name>, OutOfMemory>
     ensures { IfOk result (λ n. n ≡ name.now) }
 {
     match name {

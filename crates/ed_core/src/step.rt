@@ -19,7 +19,11 @@ impl Core {
     {
         let reply = match command {
             Command::Buffer { name, text } => return self.make_buffer(name, text),
-            Command::Projection { name, spans } => return self.make_projection(name, spans),
+            Command::Projection {
+                name,
+                spans,
+                resolver,
+            } => return self.make_projection(hooks, name, spans, resolver),
             Command::Edit {
                 buffer,
                 replaces,

@@ -9,3 +9,4 @@ pub mod Spanned
 pub mod Respanned
 pub mod Begins
 pub mod SpansBegins
+pub mod Judged

@@ -9,3 +9,4 @@ pub mod Spanning
 pub mod Begun
 pub use Rattle.ed_descent.specs.Edits
 pub use Rattle.ed_landing.specs.EditedStock
+pub mod Judging

@@ -3,6 +3,7 @@
 
 mod adding;
 mod editing;
+mod judging;
 mod listing;
 mod making;
 mod placing;

@@ -12,7 +12,8 @@ use Rattle.ed_base.specs.declared.What.{What}
 use Rattle.ed_base.specs.declared.Replace.{Replace}
 use Rattle.ed_base.specs.declared.ScriptSpan.{ScriptSpan}
 use Rattle.ed_base.specs.declared.Refusal.{Refusal}
-use Rattle.ed_base.specs.Hooks.{HookTable}
+use Rattle.ed_base.specs.declared.CutRule.{CutRule}
+use Rattle.ed_base.specs.Hooks.{HookTable, CutRules}
 use Rattle.ed_base.specs.ChangeList.{ChangeList, change}
 use Rattle.ed_script.specs.declared.Command.{Command}
 use Rattle.ed_version.specs.declared.Snapshot.{Snapshot}
@@ -31,8 +32,11 @@ replies_with hooks commands = map (λ e. e.reply) (alone hooks commands)
 abbrev replies : List Command → List Reply
 replies commands = replies_with no_hooks commands
 
+abbrev same_cuts : CutRule → CutRules
+same_cuts rule = record { on_insert = rule; on_replace = rule }
+
 abbrev some_hooks : HookTable
-some_hooks = record { resolvers = []; queries = (codes "edit_only", QueryRule.EditOnly) ∷ []; customs = (codes "caret", CustomRule.Caret) ∷ [] }
+some_hooks = record { resolvers = (codes "first", same_cuts CutRule.First) ∷ (codes "even", same_cuts CutRule.Even) ∷ []; queries = (codes "edit_only", QueryRule.EditOnly) ∷ []; customs = (codes "caret", CustomRule.Caret) ∷ [] }
 
 abbrev r : ℕ → ℕ → List ℕ → Replace
 r s l t = record { start = s; len = l; text = t }
@@ -48,6 +52,9 @@ inclusive name s l = ScriptSpan.Tracked name s l SpanMode.EdgeInclusive
 
 abbrev edit : List ℕ → List Replace → Command
 edit name replaces = Command.Edit name replaces None
+
+abbrev projection : List ℕ → List ScriptSpan → Command
+projection name members = Command.Projection name members None
 
 abbrev spans : List ℕ → ℕ → ℕ → List ScriptSpan → Command
 spans name first count added = Command.Spans name first count added None
@@ -81,8 +88,8 @@ q = codes "q"
 -- an edit of a base rises through two projections
 rises : replies (
     Command.Buffer a (codes "abcd")
-    ∷ Command.Projection p (literal (codes "<") ∷ exclusive a 2 2 ∷ literal (codes ">") ∷ [])
-    ∷ Command.Projection q (exclusive a 0 2 ∷ exclusive p 1 2 ∷ [])
+    ∷ projection p (literal (codes "<") ∷ exclusive a 2 2 ∷ literal (codes ">") ∷ [])
+    ∷ projection q (exclusive a 0 2 ∷ exclusive p 1 2 ∷ [])
     ∷ edit a (r 1 2 (codes "XY") ∷ [])
     ∷ text a ∷ text p ∷ text q ∷ [])
     ≡ Reply.Made 0 ∷ Reply.Made 1 ∷ Reply.Made 2 ∷ Reply.Edited ((0, 1) ∷ (1, 1) ∷ (2, 1) ∷ [])
@@ -93,7 +100,7 @@ rises = refl
 -- members are put in, and a range past them is refused
 members_put_in : replies (
     Command.Buffer a (codes "abcdef")
-    ∷ Command.Projection p (exclusive a 0 3 ∷ [])
+    ∷ projection p (exclusive a 0 3 ∷ [])
     ∷ spans p 1 0 (literal (codes "-") ∷ exclusive a 3 3 ∷ [])
     ∷ Command.Changes p 0
     ∷ spans p 3 1 [] ∷ [])
@@ -106,15 +113,15 @@ members_put_in = refl
 -- a projection isn't put over itself
 cycle_refused : replies (
     Command.Buffer a (codes "a")
-    ∷ Command.Projection p (exclusive a 0 1 ∷ [])
-    ∷ Command.Projection q (exclusive p 0 1 ∷ [])
+    ∷ projection p (exclusive a 0 1 ∷ [])
+    ∷ projection q (exclusive p 0 1 ∷ [])
     ∷ spans p 0 1 (exclusive q 0 1 ∷ []) ∷ [])
     ≡ Reply.Made 0 ∷ Reply.Made 1 ∷ Reply.Made 2 ∷ Reply.Refused (Refusal.Cycle 2) ∷ []
 unfolding machine_on_literals
 cycle_refused = refl
 
 abbrev over : List ℕ → List ℕ → Command
-over name source = Command.Projection name (exclusive source 0 1 ∷ [])
+over name source = projection name (exclusive source 0 1 ∷ [])
 
 -- eight projections over each other are taken, and the ninth is refused
 ninth_refused : replies (
@@ -130,7 +137,7 @@ ninth_refused = refl
 -- the refusals in their order, each after those before it have passed
 refusals : replies (
     Command.Buffer a (codes "abc")
-    ∷ Command.Projection p (exclusive a 0 3 ∷ [])
+    ∷ projection p (exclusive a 0 3 ∷ [])
     ∷ edit (codes "z") []
     ∷ Command.Buffer a []
     ∷ Command.Region p 0 1 EdgeMode.Deny SpanMode.EdgeExclusive None
@@ -138,10 +145,10 @@ refusals : replies (
     ∷ Command.Edit a [] (Some 1)
     ∷ edit a (r 4 0 [] ∷ [])
     ∷ edit a (r 3 0 (codes "d") ∷ [])
-    ∷ Command.Projection q (inclusive a 0 2 ∷ [])
-    ∷ Command.Projection q (exclusive a 0 2 ∷ exclusive a 1 2 ∷ []) ∷ [])
+    ∷ projection q (inclusive a 0 2 ∷ [])
+    ∷ projection q (exclusive a 0 2 ∷ exclusive a 1 2 ∷ []) ∷ [])
     ≡ Reply.Made 0 ∷ Reply.Made 1
-    ∷ Reply.Refused Refusal.NoBuffer ∷ Reply.Refused Refusal.NameTaken ∷ Reply.Refused Refusal.WrongKind ∷ Reply.Refused Refusal.WrongKind
+    ∷ Reply.Refused Refusal.NoBuffer ∷ Reply.Refused Refusal.NameTaken ∷ Reply.Refused Refusal.WrongKind ∷ Reply.Refused (Refusal.OutOfRange 9 3)
     ∷ Reply.Refused (Refusal.Stale 0) ∷ Reply.Refused (Refusal.OutOfRange 4 3)
     ∷ Reply.Edited ((0, 1) ∷ (1, 1) ∷ [])
     ∷ Reply.Refused (Refusal.Mode 0) ∷ Reply.Refused (Refusal.Overlap 0 1) ∷ []
@@ -151,8 +158,8 @@ refusals = refl
 -- a source that isn't there comes before a name that is taken
 source_before_name : replies (
     Command.Buffer a []
-    ∷ Command.Projection a (exclusive (codes "z") 0 0 ∷ [])
-    ∷ Command.Projection a [] ∷ [])
+    ∷ projection a (exclusive (codes "z") 0 0 ∷ [])
+    ∷ projection a [] ∷ [])
     ≡ Reply.Made 0 ∷ Reply.Refused Refusal.NoBuffer ∷ Reply.Refused Refusal.NameTaken ∷ []
 unfolding machine_on_literals
 source_before_name = refl
@@ -160,7 +167,7 @@ source_before_name = refl
 -- an overlap names indices of the list that would result
 overlap_of_the_result : replies (
     Command.Buffer a (codes "abcd")
-    ∷ Command.Projection p (exclusive a 0 2 ∷ [])
+    ∷ projection p (exclusive a 0 2 ∷ [])
     ∷ spans p 1 0 (exclusive a 1 2 ∷ []) ∷ [])
     ≡ Reply.Made 0 ∷ Reply.Made 1 ∷ Reply.Refused (Refusal.Overlap 0 1) ∷ []
 unfolding machine_on_literals
@@ -189,7 +196,7 @@ moved start len = Reply.Span (span start len)
 
 tracked : replies_with some_hooks (
     Command.Buffer a (codes "abcdefghi")
-    ∷ Command.Projection p (literal (codes "-") ∷ exclusive a 0 9 ∷ [])
+    ∷ projection p (literal (codes "-") ∷ exclusive a 0 9 ∷ [])
     ∷ edit a (r 3 0 (codes "X") ∷ r 6 0 (codes "X") ∷ [])
     ∷ Command.Span a 3 3 (SpanHow.Mode SpanMode.EdgeExclusive) (Some 0) None
     ∷ Command.Span p 4 3 (SpanHow.Mode SpanMode.EdgeInclusive) (Some 0) (Some 1)
@@ -203,3 +210,47 @@ tracked : replies_with some_hooks (
     ∷ Reply.Refused (Refusal.OutOfRange 11 10) ∷ []
 unfolding machine_on_literals
 tracked = refl
+
+-- ---- edits of projections
+
+-- what two members may take goes whole to the first, also where one of them stands over the other's source
+resolved : replies_with some_hooks (
+    Command.Buffer a (codes "abcd")
+    ∷ projection p (literal (codes "<") ∷ exclusive a 2 2 ∷ literal (codes ">") ∷ [])
+    ∷ Command.Projection q (exclusive a 0 2 ∷ exclusive p 1 2 ∷ []) (Some (codes "first"))
+    ∷ edit q (r 1 2 (codes "XY") ∷ [])
+    ∷ text a ∷ text p ∷ text q ∷ [])
+    ≡ Reply.Made 0 ∷ Reply.Made 1 ∷ Reply.Made 2 ∷ Reply.Edited ((0, 1) ∷ (1, 1) ∷ (2, 1) ∷ [])
+    ∷ shown 0 1 (codes "aXYd") ∷ shown 1 1 (codes "<d>") ∷ shown 2 1 (codes "aXYd") ∷ []
+unfolding machine_on_literals
+resolved = refl
+
+-- a resolver that isn't there is refused after the depth, and before limits
+no_resolver : replies_with some_hooks (
+    Command.Buffer a (codes "ab")
+    ∷ Command.Projection p (exclusive a 0 1 ∷ exclusive a 0 1 ∷ []) (Some (codes "last"))
+    ∷ Command.Projection p (exclusive a 0 1 ∷ []) (Some (codes "last")) ∷ [])
+    ≡ Reply.Made 0 ∷ Reply.Refused (Refusal.Overlap 0 1) ∷ Reply.Refused (Refusal.NoSuch What.Hook) ∷ []
+unfolding machine_on_literals
+no_resolver = refl
+
+abbrev literal_gone : ℕ → ℕ → ℕ → Reply
+literal_gone b start len = Reply.Refused (Refusal.Literal b (part start len))
+  where
+    part : ℕ → ℕ → Span
+    part start len = record { start = start; len = len }
+
+-- literals stay, and what none can take has no place
+not_sent : replies (
+    Command.Buffer a (codes "abc")
+    ∷ projection p (exclusive a 0 1 ∷ literal (codes "--") ∷ exclusive a 1 2 ∷ [])
+    ∷ edit p (r 2 0 (codes "X") ∷ [])
+    ∷ edit p (r 0 2 [] ∷ [])
+    ∷ edit p []
+    ∷ edit p (r 1 0 (codes "X") ∷ r 4 1 [] ∷ [])
+    ∷ text a ∷ text p ∷ [])
+    ≡ Reply.Made 0 ∷ Reply.Made 1 ∷ Reply.Refused (Refusal.NoPlace 1 2) ∷ literal_gone 1 1 1 ∷ Reply.Edited []
+    ∷ Reply.Edited ((0, 1) ∷ (1, 1) ∷ [])
+    ∷ shown 0 1 (codes "aXb") ∷ shown 1 1 (codes "aX--b") ∷ []
+unfolding machine_on_literals
+not_sent = refl

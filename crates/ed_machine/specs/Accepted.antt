@@ -14,7 +14,7 @@ use Rattle.ed_lines.specs.Lines.{lines}
 use Rattle.ed_layers.specs.Records.{Record, base}
 use Rattle.ed_stock.specs.Stock.{Buffer}
 use Rattle.ed_stock.specs.Versions.{Rising, versions_made, none_given}
-use Rattle.ed_stock.specs.Landing.{pieces_of_edit, landed}
+use Rattle.ed_stock.specs.Landing.{pieces_of_edit, sent_down, landed}
 use Rattle.ed_stock.specs.Making.{with_new, projection_of, spans_set}
 use Rattle.ed_script.specs.declared.Command.{Command}
 use Rattle.ed_version.specs.declared.Snapshot.{Snapshot}
@@ -30,9 +30,9 @@ pub record Outcome : Type 0 where
 abbrev pub answers : State → Reply → Outcome
 answers s reply = record { state = s; reply = reply }
 
--- a new buffer of this name
-abbrev pub made : State → List ℕ → Record → Outcome
-made s name r = answers (record s { stock = with_new s.stock r None; names = s.names ++ name ∷ [] }) (Reply.Made (count s))
+-- a new buffer of this name, with the resolver that it names
+abbrev pub made : State → List ℕ → Record → Option (List ℕ) → Outcome
+made s name r resolver = answers (record s { stock = with_new s.stock r resolver; names = s.names ++ name ∷ [] }) (Reply.Made (count s))
 
 -- new versions, and what goes along with them
 abbrev pub edited_to : State → Rising → Outcome
@@ -82,9 +82,9 @@ span_of start len = record { start = start; len = len }
 -- ---- commands
 
 unfoldable pub accepted : HookTable → State → Command → Outcome
-accepted hooks s (Command.Buffer name text) = made s name (base text 0)
-accepted hooks s (Command.Projection name spans) = made s name (projection_of s.stock (members s spans))
-accepted hooks s (Command.Edit name replaces at) = edit_group s (pieces_of_edit s.stock (number s name) replaces)
+accepted hooks s (Command.Buffer name text) = made s name (base text 0) None
+accepted hooks s (Command.Projection name spans resolver) = made s name (projection_of s.stock (members s spans)) resolver
+accepted hooks s (Command.Edit name replaces at) = edit_group s (sent_down hooks s.stock (pieces_of_edit s.stock (number s name) replaces))
 accepted hooks s (Command.Spans name first count spans at) = edited_to s (spans_set s.stock (number s name) first count (members s spans))
 accepted hooks s (Command.Region name start len edge mode query) =
     let b : ℕ = number s name in

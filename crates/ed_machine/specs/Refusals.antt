@@ -6,11 +6,12 @@ use Rattle.ed_base.specs.declared.SpanHow.{SpanHow}
 use Rattle.ed_base.specs.declared.Refusal.{Refusal}
 use Rattle.ed_base.specs.declared.What.{What}
 use Rattle.ed_base.specs.declared.Member.{Member}
+use Rattle.ed_base.specs.declared.Piece.{Piece}
 use Rattle.ed_base.specs.Numbers.{first_some}
 use Rattle.ed_base.specs.Hooks.{HookTable, named}
 use Rattle.ed_layers.specs.Records.{Record, is_carrier, is_elision, members_of}
 use Rattle.ed_layers.specs.Order.{mode_fault, overlap_fault}
-use Rattle.ed_stock.specs.Landing.{pieces_of_edit, denial}
+use Rattle.ed_stock.specs.Landing.{pieces_of_edit, sent_down, down_fault, denial}
 use Rattle.ed_stock.specs.Linking.{cycle, depth}
 use Rattle.ed_stock.specs.Making.{spans_replaced, sources_in}
 use Rattle.ed_script.specs.declared.Command.{Command}
@@ -87,13 +88,14 @@ no_region s b region = refused_if (not (list_any (λ r. nat_eq r.number region) 
 
 unfoldable pub tests : HookTable → State → Command → List (Option Refusal)
 tests hooks s (Command.Buffer name text) = name_taken s name ∷ []
-tests hooks s (Command.Projection name spans) =
+tests hooks s (Command.Projection name spans resolver) =
     let shown : List Member = members s spans in
     no_buffer s (names_in spans) ∷ name_taken s name ∷ past_spans s spans ∷ mode_fault (len_now s) shown ∷ overlap_fault shown
-    ∷ depth s.stock (count s + 1) (count s) (sources_in [] shown) ∷ []
+    ∷ depth s.stock (count s + 1) (count s) (sources_in [] shown) ∷ no_hook hooks.resolvers resolver ∷ []
 tests hooks s (Command.Edit name replaces at) =
     let b : ℕ = number s name in
-    no_buffer s (name ∷ []) ∷ wrong_kind s b is_base ∷ stale s b at ∷ past (map (λ r. r.start + r.len) replaces) (len_now s b) ∷ denial hooks s.stock (pieces_of_edit s.stock b replaces) ∷ []
+    let pieces : List (ℕ × Piece) = pieces_of_edit s.stock b replaces in
+    no_buffer s (name ∷ []) ∷ stale s b at ∷ past (map (λ r. r.start + r.len) replaces) (len_now s b) ∷ down_fault hooks s.stock pieces ∷ denial hooks s.stock (sent_down hooks s.stock pieces) ∷ []
 tests hooks s (Command.Spans name first number_replaced spans at) =
     let b : ℕ = number s name in
     let added : List Member = members s spans in

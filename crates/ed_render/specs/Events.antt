@@ -5,7 +5,7 @@ use Rattle.ed_entry.specs.declared.Event.{Event}
 
 abbrev pub command_text : Command → List ℕ
 command_text (Command.Buffer name text) = codes "buffer " ++ name
-command_text (Command.Projection name spans) = codes "projection " ++ name
+command_text (Command.Projection name spans resolver) = codes "projection " ++ name
 command_text (Command.Edit buffer replaces at) = codes "edit " ++ buffer
 command_text (Command.Spans buffer first count spans at) = codes "spans " ++ buffer
 command_text (Command.Region buffer start len edge mode query) = codes "region " ++ buffer

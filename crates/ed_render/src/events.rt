@@ -19,7 +19,7 @@ fn command(line: &mut Line, command: &Command) -> Result<(), OutOfMemory>
 {
     match command {
         Command::Buffer { name, text: _ } => named(line, "buffer ", name),
-        Command::Projection { name, spans: _ } => named(line, "projection ", name),
+        Command::Projection { name, .. } => named(line, "projection ", name),
         Command::Edit { buffer, .. } => named(line, "edit ", buffer),
         Command::Spans { buffer, .. } => named(line, "spans ", buffer),
         Command::Region { buffer, .. } => named(line, "region ", buffer),

@@ -22,8 +22,8 @@ buffer_command d =
 
 unfoldable pub projection_command : Data → Option Command
 projection_command d =
-    if has_only (codes "do" ∷ codes "name" ∷ codes "spans" ∷ []) d
-    then (required (codes "name") name d >>= λ n. required (codes "spans") (list_of script_span) d >>= λ ss. Some (Command.Projection n ss))
+    if has_only (codes "do" ∷ codes "name" ∷ codes "spans" ∷ codes "resolver" ∷ []) d
+    then (required (codes "name") name d >>= λ n. required (codes "spans") (list_of script_span) d >>= λ ss. optional (codes "resolver") name d >>= λ r. Some (Command.Projection n ss r))
     else None
 
 unfoldable pub edit_command : Data → Option Command

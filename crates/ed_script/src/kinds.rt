@@ -13,10 +13,12 @@ pub enum Command {
         text: Units,
     },
     /// Makes a projection that shows these members, one after another. Their spans are of the
-    /// current versions of their buffers.
+    /// current versions of their buffers. A resolver that is named divides what is put in between
+    /// members.
     Projection {
         name: Name,
         spans: ScriptSpanList,
+        resolver: Option<Name>,
     },
     /// Edits a buffer. All replaces refer to its text before the edit. Where a version is named it
     /// has to be the current one.

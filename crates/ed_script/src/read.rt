@@ -38,7 +38,7 @@ fn buffer_command(alloc: Global, value: &Value) -> Result<Option<Command>, OutOf
 fn projection_command(alloc: Global, value: &Value) -> Result<Option<Command>, OutOfMemory>
     ensures { IfOk result (λ o. o ≡ spec.projection_command (view value.now)) }
 {
-    if !has_only(value, &["do", "name", "spans"]) {
+    if !has_only(value, &["do", "name", "spans", "resolver"]) {
         return Ok(None);
     }
     let Some(name) = name_at(alloc, value, "name")? else {
@@ -47,7 +47,14 @@ fn projection_command(alloc: Global, value: &Value) -> Result<Option<Command>, O
     let Some(spans) = spans_at(alloc, value, "spans")? else {
         return Ok(None);
     };
-    Ok(Some(Command::Projection { name, spans }))
+    let Some(resolver) = name_if_there(alloc, value, "resolver")? else {
+        return Ok(None);
+    };
+    Ok(Some(Command::Projection {
+        name,
+        spans,
+        resolver,
+    }))
 }
 
 #[tactic(auto, unfolding(crate::specs::Words::edit_command))]

@@ -8,8 +8,8 @@ use Rattle.ed_core.proofs.state.Core.edit.Goals as goal
 pub returns-in_default : goal.returns-in_default
 returns-in_default g c = refused_does _ c.args.self.now _ (edit_missing (hook_table c.args.hooks.now) c.args.self.now c.args.name.now c.args.replaces.now c.args.at.now c.in_default.ensures.number)
 
-pub returns-in-Some-edit_refusal : goal.returns-in-Some-edit_refusal
-returns-in-Some-edit_refusal g c = refused_does _ c.args.self.now _ (edit_refused (hook_table c.args.hooks.now) c.args.self.now c.args.name.now c.args.replaces.now c.args.at.now c.in-Some.buffer c.in-Some.ensures.number c.in-Some-edit_refusal.refusal c.in-Some-edit_refusal.ensures.refusal)
+pub returns-in-Some-stale : goal.returns-in-Some-stale
+returns-in-Some-stale g c = refused_does _ c.args.self.now _ (edit_refused (hook_table c.args.hooks.now) c.args.self.now c.args.name.now c.args.replaces.now c.args.at.now c.in-Some.buffer c.in-Some.ensures.number c.in-Some-stale.refusal c.in-Some-stale.ensures)
 
 pub returns : goal.returns
-returns g c = does_as _ _ c.args.self.now c.edit_base.new.self c.edit_base.result (ap (replaces_outcome (hook_table c.args.hooks.now) c.args.self.now c.in-Some.buffer) c.as_slice.ensures ∙ sym (edit_step (hook_table c.args.hooks.now) c.args.self.now c.args.name.now c.args.replaces.now c.args.at.now c.in-Some.buffer c.in-Some.ensures.number c.in_default-edit_refusal.ensures.refusal c.edit_base.ensures.within)) c.edit_base.ensures.reply c.edit_base.ensures.state c.edit_base.ensures.err c.edit_base.ensures.stay
+returns g c = does_as _ _ c.args.self.now c.edit_text.new.self c.edit_text.result (ap (replaces_outcome (hook_table c.args.hooks.now) c.args.self.now c.in-Some.buffer) c.as_slice.ensures ∙ sym (edit_step (hook_table c.args.hooks.now) c.args.self.now c.args.name.now c.args.replaces.now c.args.at.now c.in-Some.buffer c.in-Some.ensures.number c.in_default-stale.ensures c.edit_text.ensures.within)) c.edit_text.ensures.reply c.edit_text.ensures.state c.edit_text.ensures.err c.edit_text.ensures.stay

@@ -12,9 +12,6 @@ use Rattle.ed_core.proofs.state.Core.tell.Goals as goal
 pub returns-in-Buffer : goal.returns-in-Buffer
 returns-in-Buffer g c = subst (λ (x : Command). Does (told (hook_table c.args.hooks.now) c.args.self.now x) c.args.self.now c.make_buffer.new.self c.make_buffer.result) (sym c.in-Buffer.is) (c.make_buffer.ensures (hook_table c.args.hooks.now))
 
-pub returns-in-Projection : goal.returns-in-Projection
-returns-in-Projection g c = subst (λ (x : Command). Does (told (hook_table c.args.hooks.now) c.args.self.now x) c.args.self.now c.make_projection.new.self c.make_projection.result) (sym c.in-Projection.is) (c.make_projection.ensures (hook_table c.args.hooks.now))
-
 pub returns-in-Spans : goal.returns-in-Spans
 returns-in-Spans g c = subst (λ (x : Command). Does (told (hook_table c.args.hooks.now) c.args.self.now x) c.args.self.now c.replace_spans.new.self c.replace_spans.result) (sym c.in-Spans.is) (c.replace_spans.ensures (hook_table c.args.hooks.now))
 

@@ -2,7 +2,7 @@ use Rattle.std.proofs.Common.{◌≡◌, IfOk, OnOk, subst}
 use Rattle.ed_callbacks.specs.HookLists.{hook_table}
 use Rattle.ed_machine.specs.Accepted.{Outcome}
 use Rattle.ed_core.proofs.Normalised.{form-lands, form-reply, form-state}
-use Rattle.ed_core.proofs.state.Core.edit_base.Goals as goal
+use Rattle.ed_core.proofs.state.Core.edit_text.Goals as goal
 
 pub returns-in-Ok-clause-reply : goal.returns-in-Ok-clause-reply
 returns-in-Ok-clause-reply g c = subst (λ (o : Outcome). IfOk c.land_changes.result (λ r. r ≡ o.reply)) (form-lands (hook_table c.args.hooks.now) c.args.self.now c.args.buffer c.args.replaces.now _ c.len_now-now_len.ensures.len c.normalise.result c.normalise.ensures.past _ c.in-Ok.is c.in-Ok.ensures.normal) c.land_changes.ensures.reply
