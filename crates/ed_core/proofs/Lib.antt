@@ -23,3 +23,4 @@ pub mod Settling
 pub mod RegionSteps
 pub mod RegionTelling
 mod Doing
+pub mod OneEdit
