@@ -34,7 +34,7 @@ module _ (hs : List Held) (graph : List (List ℕ)) (counts : Counts) (kept : Is
   judged_parts : standing_fault (stock hs) ms ≡ or_else (first_fault (len_in ls) ms) deep
   judged_parts =
       whole (mode_fault (len_now (stock hs)) ms) (mode_fault (len_in ls) ms) (overlap_fault ms) (depth (stock hs) (count (stock hs) + 1) (count (stock hs)) here) deep
-      (same_mode_fault (len_now (stock hs)) (len_in ls) ms (each_weaker (IsListed here) (Agree (len_now (stock hs)) (len_in ls)) (agrees hs graph counts kept ms inside ss ss_is ls ls_is) ms (all_listed ms))) (depth_is (map known hs) graph counts kept ms (each_of (LiesIn (stock hs)) ms inside))
+      (same_mode_fault (len_now (stock hs)) (len_in ls) ms (each_weaker (IsListed here) (Agree (len_now (stock hs)) (len_in ls)) (agrees hs graph counts kept ms inside ss ss_is ls ls_is) ms (all_listed ms))) (depth_is (map known hs) graph counts kept ms (each_of (LiesIn (stock hs)) ms inside) None)
     where
       whole : (a a' b d d' : Option Refusal) → a ≡ a' → d ≡ d' → first_some (a ∷ b ∷ d ∷ []) ≡ or_else (or_else a' b) d'
       whole a a' b d d' e f = rw (e, f) (ap (λ x. or_else a' (or_else b x)) (or_else_none d') ∙ sym (or_else_assoc a' b d'))
