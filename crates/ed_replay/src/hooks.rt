@@ -1,16 +1,37 @@
 //! The hooks that commands may name.
 ghost use Rattle.std.specs.Prelude.{◌≡◌, [], None, true, IfOk, OnOk};
+ghost use Rattle.ed_base.specs.declared.CutRule.{CutRule};
 ghost use Rattle.ed_base.specs.declared.QueryRule.{QueryRule};
 ghost use Rattle.ed_base.specs.declared.CustomRule.{CustomRule};
 ghost use Rattle.ed_base.specs.Hooks.{named};
 ghost use Rattle.ed_base.specs.Names.{is_name};
-ghost use Rattle.ed_callbacks.specs.Answering.{AnswersCustom, AnswersQuery};
-ghost use Rattle.ed_callbacks.specs.HookLists.{hook_table, with_custom, with_query};
-ghost use Rattle.ed_replay.specs.ProgramHooks.{no_hooks, program_customs, program_hooks, program_queries};
+ghost use Rattle.ed_callbacks.specs.Answering.{AnswersCustom, AnswersCut, AnswersQuery};
+ghost use Rattle.ed_callbacks.specs.HookLists.{hook_table, with_custom, with_query, with_resolver};
+ghost use Rattle.ed_replay.specs.ProgramHooks.{no_hooks, program_customs, program_hooks, program_queries, resolvers_alone, same_cuts};
 
-use ed_base::{CustomRule, Name, OutOfMemory, QueryRule};
-use ed_callbacks::{Ask, CustomTrack, Hooks, RegionQuery, Track};
+use ed_base::{CustomRule, CutRule, Name, OutOfMemory, QueryRule};
+use ed_callbacks::{Ask, CustomTrack, Cut, Hooks, RegionQuery, Resolver, Track};
 use std::alloc::Global;
+
+/// Keeps a resolver under a name that no resolver has. It divides insertions and replacements by one
+/// rule.
+fn keep_resolver(
+    alloc: Global,
+    hooks: &mut Hooks,
+    name: &str,
+    rule: CutRule,
+    insert: Cut,
+    replace: Cut,
+) -> Result<(), OutOfMemory>
+    requires valid { is_name name.now ≡ true }
+    requires free { named name.now (hook_table hooks.old).resolvers ≡ None }
+    requires insert { AnswersCut (Cut.pre insert) (Cut.post insert) rule }
+    requires replace { AnswersCut (Cut.pre replace) (Cut.post replace) rule }
+    ensures { OnOk result (hook_table hooks.new ≡ with_resolver (hook_table hooks.old) (name.now, same_cuts rule)) }
+{
+    let resolver = Resolver::new(Name::of(alloc, name)?, rule, insert, rule, replace);
+    hooks.add_resolver(resolver)
+}
 
 /// Keeps a query of read-only regions under a name that no query has.
 fn keep_query(
@@ -44,6 +65,58 @@ fn keep_custom(
 {
     let custom = CustomTrack::new(Name::of(alloc, name)?, rule, track);
     hooks.add_custom(custom)
+}
+
+/// Keeps the resolvers of the program where no hooks were: closures for each rule, under the rule's
+/// name. `keep_hooks` adds the other hooks.
+///
+/// # Errors
+///
+/// Memory was refused.
+#[tactic(auto, unfolding(ed_base::specs::Names::is_name))]
+pub fn keep_resolvers(
+    alloc: Global,
+    hooks: &mut Hooks,
+    first_insert: Cut,
+    first_replace: Cut,
+    last_insert: Cut,
+    last_replace: Cut,
+    even_insert: Cut,
+    even_replace: Cut,
+) -> Result<(), OutOfMemory>
+    requires none { hook_table hooks.old ≡ no_hooks }
+    requires first_insert { AnswersCut (Cut.pre first_insert) (Cut.post first_insert) CutRule.First }
+    requires first_replace { AnswersCut (Cut.pre first_replace) (Cut.post first_replace) CutRule.First }
+    requires last_insert { AnswersCut (Cut.pre last_insert) (Cut.post last_insert) CutRule.Last }
+    requires last_replace { AnswersCut (Cut.pre last_replace) (Cut.post last_replace) CutRule.Last }
+    requires even_insert { AnswersCut (Cut.pre even_insert) (Cut.post even_insert) CutRule.Even }
+    requires even_replace { AnswersCut (Cut.pre even_replace) (Cut.post even_replace) CutRule.Even }
+    ensures { OnOk result (hook_table hooks.new ≡ resolvers_alone) }
+{
+    keep_resolver(
+        alloc,
+        hooks,
+        "first",
+        CutRule::First,
+        first_insert,
+        first_replace,
+    )?;
+    keep_resolver(
+        alloc,
+        hooks,
+        "last",
+        CutRule::Last,
+        last_insert,
+        last_replace,
+    )?;
+    keep_resolver(
+        alloc,
+        hooks,
+        "even",
+        CutRule::Even,
+        even_insert,
+        even_replace,
+    )
 }
 
 /// Keeps the queries of the program.
@@ -89,7 +162,8 @@ fn keep_customs(
     keep_custom(alloc, hooks, "caret", CustomRule::Caret, caret)
 }
 
-/// Keeps the hooks of the program where none were: a closure for each rule, under the rule's name.
+/// Keeps the hooks of the program beside its resolvers, which are there (`keep_resolvers`): a closure
+/// for each rule, under the rule's name.
 ///
 /// # Errors
 ///
@@ -103,7 +177,7 @@ pub fn keep_hooks(
     sticky: Track,
     caret: Track,
 ) -> Result<(), OutOfMemory>
-    requires none { hook_table hooks.old ≡ no_hooks }
+    requires resolved { hook_table hooks.old ≡ resolvers_alone }
     requires always { AnswersQuery (Ask.pre always) (Ask.post always) QueryRule.Always }
     requires edit_only { AnswersQuery (Ask.pre edit_only) (Ask.post edit_only) QueryRule.EditOnly }
     requires even_version { AnswersQuery (Ask.pre even_version) (Ask.post even_version) QueryRule.EvenVersion }

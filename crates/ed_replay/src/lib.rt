@@ -3,6 +3,7 @@
 #![tactic(auto)]
 
 mod command_line;
+mod cuts;
 mod hooks;
 mod replay;
 mod report;
@@ -10,6 +11,7 @@ mod telling;
 mod writing;
 
 pub use command_line::run;
-pub use hooks::keep_hooks;
+pub use cuts::even_end;
+pub use hooks::{keep_hooks, keep_resolvers};
 pub use replay::replay_alone;
 pub use report::{Report, Status};

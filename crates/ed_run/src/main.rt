@@ -2,10 +2,12 @@
 //! standard output.
 #![tactic(auto)]
 
+ghost use Rattle.std.specs.Prelude.{◌<◌, ◌≤◌, ◌^◌};
+
 use ed_base::{Edges, VersionNo};
 use ed_callbacks::Hooks;
 use ed_io::{StdSink, StdSource};
-use ed_replay::{Status, keep_hooks, run};
+use ed_replay::{Status, even_end, keep_hooks, keep_resolvers, run};
 use std::io::ErrorKind;
 use std::process::ExitCode;
 use std::rt::Env;
@@ -31,6 +33,56 @@ fn without_words(error: io::Error) -> Status {
 
 fn main(rt: HostRuntime) -> ExitCode {
     let alloc = rt.alloc();
+    let (
+        Ok(first_insert),
+        Ok(first_replace),
+        Ok(last_insert),
+        Ok(last_replace),
+        Ok(even_insert),
+        Ok(even_replace),
+    ) = (
+        Box::new(alloc, |len: u32, _count: u32, _index: u32| len),
+        Box::new(alloc, |len: u32, _count: u32, _index: u32| len),
+        Box::new(
+            alloc,
+            |len: u32, count: u32, index: u32|
+                requires { index < count }
+            { if index + 1 == count { len } else { 0 } },
+        ),
+        Box::new(
+            alloc,
+            |len: u32, count: u32, index: u32|
+                requires { index < count }
+            { if index + 1 == count { len } else { 0 } },
+        ),
+        Box::new(
+            alloc,
+            |len: u32, count: u32, index: u32|
+                requires { (len ≤ 2 ^ 22) × (count ≤ 1024) × (index < count) }
+            { even_end(len, count, index) },
+        ),
+        Box::new(
+            alloc,
+            |len: u32, count: u32, index: u32|
+                requires { (len ≤ 2 ^ 22) × (count ≤ 1024) × (index < count) }
+            { even_end(len, count, index) },
+        ),
+    ) else {
+        return ExitCode::from(Status::Memory.exit_code());
+    };
+    let mut hooks = Hooks::new(alloc);
+    let Ok(()) = keep_resolvers(
+        alloc,
+        &mut hooks,
+        first_insert,
+        first_replace,
+        last_insert,
+        last_replace,
+        even_insert,
+        even_replace,
+    ) else {
+        return ExitCode::from(Status::Memory.exit_code());
+    };
     let (Ok(always), Ok(edit_only), Ok(even_version), Ok(sticky), Ok(caret)) = (
         Box::new(alloc, |_version: VersionNo, _edit: bool| true),
         Box::new(alloc, |_version: VersionNo, edit: bool| edit),
@@ -46,7 +98,6 @@ fn main(rt: HostRuntime) -> ExitCode {
     ) else {
         return ExitCode::from(Status::Memory.exit_code());
     };
-    let mut hooks = Hooks::new(alloc);
     let Ok(()) = keep_hooks(
         alloc,
         &mut hooks,

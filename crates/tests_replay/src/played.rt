@@ -1,10 +1,10 @@
 //! A replay from memory to memory.
-ghost use Rattle.std.specs.Prelude.{◌<◌};
+ghost use Rattle.std.specs.Prelude.{◌<◌, ◌≤◌, ◌^◌};
 
 use ed_base::{Edges, VersionNo};
 use ed_callbacks::Hooks;
 use ed_io::{MemorySink, MemorySource};
-use ed_replay::{Status, keep_hooks, run};
+use ed_replay::{Status, even_end, keep_hooks, keep_resolvers, run};
 use std::alloc::Global;
 use std::test::*;
 
@@ -36,6 +36,36 @@ pub fn played(
     let mut source = MemorySource::new(bytes, piece, vec![in alloc; failing_read]?);
     let mut sink = MemorySink::new(alloc, 1 << 22, piece, vec![in alloc; failing_write]?)?;
     let mut hooks = Hooks::new(alloc);
+    keep_resolvers(
+        alloc,
+        &mut hooks,
+        Box::new(alloc, |len: u32, _count: u32, _index: u32| len)?,
+        Box::new(alloc, |len: u32, _count: u32, _index: u32| len)?,
+        Box::new(
+            alloc,
+            |len: u32, count: u32, index: u32|
+                requires { index < count }
+            { if index + 1 == count { len } else { 0 } },
+        )?,
+        Box::new(
+            alloc,
+            |len: u32, count: u32, index: u32|
+                requires { index < count }
+            { if index + 1 == count { len } else { 0 } },
+        )?,
+        Box::new(
+            alloc,
+            |len: u32, count: u32, index: u32|
+                requires { (len ≤ 2 ^ 22) × (count ≤ 1024) × (index < count) }
+            { even_end(len, count, index) },
+        )?,
+        Box::new(
+            alloc,
+            |len: u32, count: u32, index: u32|
+                requires { (len ≤ 2 ^ 22) × (count ≤ 1024) × (index < count) }
+            { even_end(len, count, index) },
+        )?,
+    )?;
     keep_hooks(
         alloc,
         &mut hooks,
