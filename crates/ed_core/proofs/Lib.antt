@@ -24,3 +24,4 @@ pub mod RegionSteps
 pub mod RegionTelling
 mod Doing
 pub mod OneEdit
+pub mod Typing

@@ -22,7 +22,7 @@ use Rattle.ed_stock.specs.Landing.{landed}
 use Rattle.ed_machine.specs.State.{State}
 use Rattle.ed_machine.specs.Accepted.{edit_group, edited_to}
 
-nothing_woven : {X : Type 0} (p : ℕ) (xs : List X) → woven (λ q. []) (λ q. false) p xs ≡ xs
+pub nothing_woven : {X : Type 0} (p : ℕ) (xs : List X) → woven (λ q. []) (λ q. false) p xs ≡ xs
 nothing_woven p [] = refl
 nothing_woven p (x ∷ xs) = ap (λ ys. x ∷ ys) (nothing_woven (p + 1) xs)
 

@@ -5,3 +5,4 @@ pub mod RegionOutcomes
 pub mod Deciding
 pub mod Asking
 pub mod Doing
+pub mod Typed

@@ -1,7 +1,9 @@
 //! The core as a value.
-ghost use Rattle.std.specs.Prelude.{◌≡◌, ◌<◌, IfSome};
+ghost use Rattle.std.specs.Prelude.{◌≡◌, ◌<◌, length, IfSome};
 ghost use Rattle.ed_entry.specs.declared.Reply.{Reply as Answered};
 ghost use Rattle.ed_risen.specs.Laws.{CurrentVector, OneVector, RecordsStay};
+ghost use Rattle.ed_sending.proofs.Groups.AcceptedEdit.{IsReady};
+ghost use Rattle.ed_sending.proofs.Groups.OneWay.{NamesLower};
 ghost use Rattle.ed_machine.specs.State.{empty_state, number_of, count};
 ghost use Rattle.ed_machine.specs.Accepted.{answers};
 ghost use Rattle.ed_machine.specs.Step.{within_limits, weighed};
@@ -59,6 +61,9 @@ impl Core {
         ensures count { result ≡ count self.now }
         ensures one { OneVector self.now.stock }
         ensures current { CurrentVector self.now.stock }
+        ensures ready { IsReady self.now.stock }
+        ensures low { NamesLower self.now.stock }
+        ensures named { length self.now.names ≡ count self.now }
     {
         self.stock.count()
     }

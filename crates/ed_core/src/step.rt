@@ -4,6 +4,7 @@ ghost use Rattle.ed_callbacks.specs.HookLists.{hook_table};
 ghost use Rattle.ed_risen.specs.Laws.{CurrentVector, OneVector, RecordsStay};
 ghost use Rattle.ed_machine.specs.Step.{step, told};
 ghost use Rattle.ed_core.specs.Doing.{Does};
+ghost use Rattle.ed_core.specs.Typed.{TypedText};
 
 use crate::state::Core;
 use ed_base::{OutOfMemory, Span};
@@ -91,11 +92,13 @@ impl Core {
         ensures one { OneVector self.new.stock }
         ensures current { CurrentVector self.new.stock }
         ensures stay { RecordsStay self.old.stock self.new.stock }
+        ensures typed { IfOk result (λ r. TypedText self.old self.new event.now r) }
     {
+        // The number of buffers is looked at for the laws, of the stock before and of the one after.
+        let _count_before = self.count();
         match event {
             Event::Told(command) => {
                 let told = self.tell(hooks, command);
-                // The number of buffers is looked at for the laws.
                 let _count = self.count();
                 told
             }

@@ -10,3 +10,4 @@ pub mod Respanned
 pub mod Begins
 pub mod SpansBegins
 pub mod Judged
+pub mod Ready

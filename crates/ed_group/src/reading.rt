@@ -10,6 +10,8 @@ ghost use Rattle.ed_stock.specs.Stock.{buffer, count, now, record_now, reiterate
 ghost use Rattle.ed_track.specs.Linked.{AreLinked, len_after, len_before};
 ghost use Rattle.ed_group.specs.Answers.{members_now};
 ghost use Rattle.ed_risen.specs.Laws.{CurrentVector, OneVector};
+ghost use Rattle.ed_sending.proofs.Groups.AcceptedEdit.{IsReady};
+ghost use Rattle.ed_sending.proofs.Groups.OneWay.{NamesLower};
 ghost use Rattle.ed_held.specs.Seen.{known, last_of, reiterated_of, stock, text_of};
 
 use crate::stock::Stock;
@@ -40,7 +42,11 @@ impl Stock {
         ensures within { first_some (stock_limits (stock self.now)) ≡ None }
         ensures one { OneVector (stock self.now) }
         ensures current { CurrentVector (stock self.now) }
+        ensures ready { IsReady (stock self.now) }
+        ensures low { NamesLower (stock self.now) }
     {
+        // The graph is looked at for its levels.
+        let _order = self.graph.order();
         self.buffers.len() as u32
     }
 
