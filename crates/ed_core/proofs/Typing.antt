@@ -1,5 +1,5 @@
 -- An accepted edit makes of the text of its buffer what it says.
-use Rattle.std.proofs.Common.{◌≡◌, ℕ, ◌<◌, List, [], ◌∷◌, length, map, Option, Some, None, Result, Ok, Err, IfOk, OnOk, refl, sym, ap, ◌∙◌, subst}
+use Rattle.std.proofs.Common.{◌≡◌, ℕ, ◌+◌, ◌<◌, List, [], ◌∷◌, length, map, Option, Some, None, Result, Ok, Err, IfOk, OnOk, refl, sym, ap, ◌∙◌, subst}
 use Rattle.std.specs.Prelude.{is_none, unwrap_or}
 use Rattle.std.specs.Str.{bytes_eq}
 use Rattle.std.proofs.lemmas.List.Quantifiers.{position-Some}
@@ -28,7 +28,7 @@ use Rattle.ed_machine.specs.State.{State, count, number, number_of, text_now}
 use Rattle.ed_machine.specs.Accepted.{Outcome, accepted, edit_group}
 use Rattle.ed_machine.specs.Refusals.{len_now, no_buffer, past, refusal, stale, tests}
 use Rattle.ed_machine.specs.Limits.{limit_fault}
-use Rattle.ed_machine.specs.Step.{or_refused, told, weighed, within_limits}
+use Rattle.ed_machine.specs.Step.{or_refused, step, told, weighed, within_limits}
 use Rattle.ed_core.specs.Typed.{TypedText}
 use Rattle.ed_core.proofs.Nothing.{nothing_sent, nothing_woven, some_landed}
 
@@ -87,12 +87,21 @@ module _ (hooks : HookTable) (s : State) (name : List ℕ) (replaces : List Repl
     leaves : (told hooks s asked).state.stock ≡ landing.state.stock
     leaves = ap (λ (o : Outcome). o.state.stock) (told_is ∙ ap (λ o. or_refused s o (weighed landing)) unlimited)
 
+    abbrev after_down : List (Option Refusal)
+    after_down = denial hooks s.stock (sent_down hooks s.stock pieces) ∷ []
+
+    abbrev after_past : List (Option Refusal)
+    after_past = down_fault hooks s.stock pieces ∷ after_down
+
+    abbrev ends_past : Option Refusal
+    ends_past = past (map (λ r. r.start + r.len) replaces) (len_now s b)
+
     faults : (no_buffer s (name ∷ []) ≡ None) × (down_fault hooks s.stock pieces ≡ None)
     faults =
-        let first = head_none _ _ (sym reasons ∙ unrefused) in
-        let second = head_none _ _ first.1 in
-        let third = head_none _ _ second.1 in
-        (first.0, (head_none _ _ third.1).0)
+        let first = head_none (no_buffer s (name ∷ [])) (stale s b at ∷ ends_past ∷ after_past) (sym reasons ∙ unrefused) in
+        let second = head_none (stale s b at) (ends_past ∷ after_past) first.1 in
+        let third = head_none ends_past after_past second.1 in
+        (first.0, (head_none (down_fault hooks s.stock pieces) after_down third.1).0)
 
     there : length s.names ≡ count s → b < count s
     there named =
@@ -120,6 +129,10 @@ module _ (hooks : HookTable) (s : State) (name : List ℕ) (replaces : List Repl
             ap (λ t. stock.text_now t b) made ∙ typed_replaces hooks s.stock ready low b (there named) replaces one faults.1 (subst IsReady made after).deep
 
 -- ---- the clause
+
+pub step-told : (hooks : HookTable) (s : State) (event : Event) (command : Command) → event ≡ Event.Told command → step hooks s event ≡ told hooks s command
+unfolding step
+step-told hooks s event command is = ap (step hooks s) is
 
 pub typed_as : (hooks : HookTable) (s u : State) (event : Event) (o : Outcome) (r : Reply) → ((command : Command) → event ≡ Event.Told command → o ≡ told hooks s command)
     → IsReady s.stock → NamesLower s.stock → length s.names ≡ count s → IsReady u.stock → u ≡ o.state → r ≡ o.reply → TypedText s u event r
