@@ -5,7 +5,7 @@ ghost use Rattle.ed_base.specs.Denial.{denied_at};
 ghost use Rattle.ed_base.specs.Numbers.{places};
 ghost use Rattle.ed_base.specs.Spans.{end_of};
 ghost use Rattle.ed_callbacks.specs.HookLists.{hook_table};
-ghost use Rattle.ed_layers.specs.Records.{is_carrier, is_elision, members_of};
+ghost use Rattle.ed_layers.specs.Records.{is_carrier, is_elision, members_of, sources_of};
 ghost use Rattle.ed_readonly.specs.LiveRegions.{limit_passed, limit_told};
 ghost use Rattle.ed_track.specs.Linked.{AreLinked, len_after, len_before};
 ghost use Rattle.ed_held.specs.Asking.{IsBase, regions_of, with_region, without_region, zoned};
@@ -16,7 +16,7 @@ ghost use Rattle.ed_held.specs.Seen.{known, last_of, reiterated_of, text_of};
 
 use crate::moves::{Move, Planned};
 use ed_base::{
-    Changes, EdgeMode, Name, NumberList, OutOfMemory, RegionNo, Span, SpanMode, VersionNo,
+    BufferNo, Changes, EdgeMode, Name, NumberList, OutOfMemory, RegionNo, Span, SpanMode, VersionNo,
 };
 use ed_buffer::Base;
 use ed_callbacks::Hooks;
@@ -251,6 +251,16 @@ impl Held {
         match self {
             Held::Base(_) => false,
             Held::Projection { turns, .. } => *turns < u32::MAX,
+        }
+    }
+
+    /// The versions of the sources that the current version names. A base has none.
+    pub fn sources(&self) -> &[(BufferNo, VersionNo)]
+        ensures { result.now ≡ sources_of (last_of (known self.now).buffer) }
+    {
+        match self {
+            Held::Base(_) => &[],
+            Held::Projection { projection, .. } => projection.sources(projection.now()).as_slice(),
         }
     }
 
