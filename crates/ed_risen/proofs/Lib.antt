@@ -1,8 +1,10 @@
 pub mod Lists
 pub mod FoundedLemmas
 pub mod Texts
+pub mod Runs
 pub mod Growth
 pub mod Lengths
+pub mod ShownRuns
 pub mod RisingLemmas
 pub mod Settled
 pub mod Order
@@ -17,3 +19,4 @@ pub mod Starts
 pub mod Limits
 pub mod PlainTurns
 pub mod Covering
+pub mod NextRecords
