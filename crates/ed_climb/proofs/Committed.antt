@@ -19,7 +19,7 @@ use Rattle.ed_held.specs.declared.held.Held.{Held}
 use Rattle.ed_held.specs.declared.moves.Move.{Move}
 use Rattle.ed_held.specs.declared.moves.Planned.{Planned}
 use Rattle.ed_climb.specs.Group.{Plan, IsPlanned, known_after, known_made, known_moved, outcome, set_known, MayTurn}
-use Rattle.ed_held.specs.Making.{known_grown, known_turned, IsProjection}
+use Rattle.ed_held.specs.Making.{known_grown, known_turned, CanTurn}
 use Rattle.ed_risen.specs.Counting.{turn, turned_in}
 use Rattle.ed_climb.specs.Kept.{IsKept}
 use Rattle.ed_risen.specs.Laws.{CurrentVector, OneVector, RecordsStay}
@@ -76,10 +76,10 @@ known_set f hs b old new is changed =
 pub set_others : (hs : List Held) (b : ℕ) (new : Held) (a : ℕ) → b ≢ a → slice_get (slice_set hs b new) a ≡ slice_get hs a
 set_others hs b new a apart = set_other hs b a new (λ e. apart (sym e))
 
-pub set_turning : (hs : List Held) (b : ℕ) (old new : Held) → slice_get hs b ≡ Some old → (IsProjection old → IsProjection new) → (a : ℕ) → MayTurn hs a → MayTurn (slice_set hs b new) a
+pub set_turning : (hs : List Held) (b : ℕ) (old new : Held) → slice_get hs b ≡ Some old → (CanTurn old → CanTurn new) → (a : ℕ) → MayTurn hs a → MayTurn (slice_set hs b new) a
 set_turning hs b old new is turns a may = elim (cases_eq a b) [
-  | inl same ↦ subst (MayTurn (slice_set hs b new)) (sym same) (subst (λ o. MatchOption o ⊥ IsProjection) (sym (set_here hs b new (slice_get_within hs b old is))) (turns (subst (λ o. MatchOption o ⊥ IsProjection) is (subst (MayTurn hs) same may))))
-  | inr apart ↦ subst (λ o. MatchOption o ⊥ IsProjection) (sym (set_other hs b a new apart)) may
+  | inl same ↦ subst (MayTurn (slice_set hs b new)) (sym same) (subst (λ o. MatchOption o ⊥ CanTurn) (sym (set_here hs b new (slice_get_within hs b old is))) (turns (subst (λ o. MatchOption o ⊥ CanTurn) is (subst (MayTurn hs) same may))))
+  | inr apart ↦ subst (λ o. MatchOption o ⊥ CanTurn) (sym (set_other hs b a new apart)) may
 ]
 
 -- a number of a buffer that is there

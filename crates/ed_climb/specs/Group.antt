@@ -13,7 +13,7 @@ use Rattle.ed_risen.specs.Founded.{Extends}
 use Rattle.ed_climb.specs.Kept.{IsKept}
 use Rattle.ed_held.specs.Moves.{AreApart, IsPlannedAt, changes_of, record_of, snapshot_of, with_move}
 use Rattle.ed_held.specs.Seen.{Known, known, stock}
-use Rattle.ed_held.specs.Making.{IsProjection, known_grown, known_turned}
+use Rattle.ed_held.specs.Making.{CanTurn, known_grown, known_turned}
 
 -- The versions that will be made in their order, the buffer whose members were set if one's were, the graph and the numbers that there will be, and the versions as they will be told.
 pub record Plan : Type 0 where
@@ -43,9 +43,9 @@ known_after ks g = known_made ks g.moves g.turned
 
 -- ---- what makes a group one that can be made
 
--- the buffer is a projection whose members can be set once more
+-- the buffer can be changed once more otherwise than by an edit
 abbrev pub MayTurn : List Held → ℕ → Type 0
-MayTurn hs b = MatchOption (slice_get hs b) ⊥ IsProjection
+MayTurn hs b = MatchOption (slice_get hs b) ⊥ CanTurn
 
 -- The versions were planned of these buffers, and what they leave is a stock again, of which no record that was there has changed.
 pub record IsPlanned (hs : List Held) (g : Plan) : Type 0 where

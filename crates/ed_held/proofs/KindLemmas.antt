@@ -1,6 +1,6 @@
 -- What is known of a buffer of each kind.
-use Rattle.std.proofs.Common.{◌≡◌, ℕ, zero, suc, ◌+◌, ◌-◌, ◌<◌, Bool, true, false, List, [], ◌∷◌, ◌++◌, length, map, Option, Some, None, Ok, Err, refl, sym, ap, ◌∙◌, subst, arith}
-use Rattle.std.specs.Prelude.{All, filter, not, slice_get, unwrap_or, ◌||◌}
+use Rattle.std.proofs.Common.{◌≡◌, ℕ, zero, suc, ◌+◌, ◌-◌, ◌<◌, ◌^◌, Bool, true, false, List, [], ◌∷◌, ◌++◌, length, map, Option, Some, None, Ok, Err, refl, sym, ap, ◌∙◌, subst, arith}
+use Rattle.std.specs.Prelude.{All, IfOk, Result, filter, not, slice_get, unwrap_or, ◌||◌}
 use Rattle.std.specs.Option.{option_map_or}
 use Rattle.std.specs.List.{list_any, range_with_len}
 use Rattle.std.proofs.lemmas.List.{length-map, map-append}
@@ -31,7 +31,7 @@ use Rattle.ed_held.specs.Respanning.{HasRespanned, IsPart, held_members}
 use Rattle.ed_held.specs.Seen.{Known, base_record, known, last_of, reiterated_of, text_of}
 use Rattle.ed_risen.proofs.RisingLemmas.{get_last}
 use Rattle.ed_risen.proofs.Lists.{get_map}
-use Rattle.ed_held.specs.Making.{known_grown}
+use Rattle.ed_held.specs.Making.{CanTurn, known_grown}
 use Rattle.ed_held.specs.declared.held.Held.{Held}
 use Rattle.ed_held.specs.declared.moves.Move.{Move}
 use Rattle.ed_held.specs.declared.moves.Planned.{Planned}
@@ -55,7 +55,7 @@ projection_last p turns some =
     ∙ ap (λ o. unwrap_or o (base [] 0)) (get_map record_of p.versions (length p.versions - 1) (shown_now p) (get_last p.versions some (shown [] [] [])))
 
 pub base_held : (h : Held) → 0 < length (known h).buffer.records → is_carrier (last_of (known h).buffer) ≡ false → IsBase h
-base_held (Held.Base x) some bare = tt
+base_held (Held.Base x) some bare = (x, refl)
 base_held (Held.Projection p turns) some bare = absurd (let e : is_carrier (last_of (known (Held.Projection p turns)).buffer) ≡ true = ap is_carrier (projection_last p turns (omega (arith, some, length-map p.versions record_of))) in cc)
 
 pub texts_count : (h : Held) → length (known h).texts ≡ length (known h).buffer.records
@@ -105,8 +105,8 @@ base_unzoned x y n live is regions chain dead =
     with_zones : ℕ → List Region → LiveRegions
     with_zones given rs = record { regions = rs; given = given }
 
-abbrev pub text_in : Version → List ℕ
-text_in v = v.text
+abbrev pub text_kept : Version → List ℕ
+text_kept v = v.text
 
 abbrev pub text_shown : Shown → List ℕ
 text_shown v = v.text
@@ -115,12 +115,22 @@ text_shown v = v.text
 pub base_grown : (x y : Base) (s : NextVersion) (m : Move) → m.planned ≡ Planned.Base s → y.chain.buffer ≡ x.chain.buffer → y.chain.versions ≡ x.chain.versions ++ version s.snapshot.text s.reiterated ∷ [] → y.chain.changes ≡ x.chain.changes ++ s.changes ∷ []
     → y.regions.regions ≡ regions_after (step s.changes) x.regions.regions → y.regions.given ≡ x.regions.given → known (Held.Base y) ≡ known_grown (known (Held.Base x)) m
 base_grown x y s m is number versions changes regions given =
-    rw (is, number, versions, changes, regions, given, map-append base_record x.chain.versions (version s.snapshot.text s.reiterated ∷ []), map-append text_in x.chain.versions (version s.snapshot.text s.reiterated ∷ [])) refl
+    rw (is, number, versions, changes, regions, given, map-append base_record x.chain.versions (version s.snapshot.text s.reiterated ∷ []), map-append text_kept x.chain.versions (version s.snapshot.text s.reiterated ∷ [])) refl
 
 pub projection_grown : (p q : Projection) (turns : ℕ) (n : Next) (m : Move) → m.planned ≡ Planned.Projection n → q.buffer ≡ p.buffer → q.versions ≡ p.versions ++ shown n.members n.sources n.snapshot.text ∷ [] → q.changes ≡ p.changes ++ n.changes ∷ []
     → q.resolver ≡ p.resolver → known (Held.Projection q turns) ≡ known_grown (known (Held.Projection p turns)) m
 projection_grown p q turns n m is number versions changes resolver =
     rw (is, number, versions, changes, resolver, map-append record_of p.versions (shown n.members n.sources n.snapshot.text ∷ []), map-append text_shown p.versions (shown n.members n.sources n.snapshot.text ∷ [])) refl
+
+-- ---- buffers that are known alike turn alike
+
+pub turn_kept : (h h₂ : Held) → (known h₂).buffer ≡ (known h).buffer → 0 < length (known h).buffer.records → CanTurn h → CanTurn h₂
+turn_kept (Held.Base x) h₂ same some may = absurd may
+turn_kept (Held.Projection p turns) (Held.Projection p₂ turns₂) same some may = subst (λ k. k + 1 < 2 ^ 32) (sym (ap (λ (x : Buffer). x.turns) same)) may
+turn_kept (Held.Projection p turns) (Held.Base x) same some may =
+    let carrier : is_carrier (last_of (known (Held.Projection p turns)).buffer) ≡ true = ap is_carrier (projection_last p turns (omega (arith, some, length-map p.versions record_of))) in
+    let bare : is_carrier (last_of (known (Held.Base x)).buffer) ≡ false = base_last x.chain.versions (length (known (Held.Base x)).buffer.records - 1) in
+    absurd (let e : true ≡ false = sym carrier ∙ (ap (λ y. is_carrier (last_of y)) (sym same) ∙ bare) in cc)
 
 -- ---- a base stands on nothing
 
@@ -222,3 +232,10 @@ module _ (p : Projection) (turns : ℕ) (some : 0 < length p.versions) where
 
     pub respans_err : (e : OutOfMemory) → Respans sources p q first removed members (Err e) → HasRespanned sources (Held.Projection p turns) (Held.Projection q turns) first removed members (Err e)
     respans_err e done = record { same = same_known p q turns done.same; next = tt; made = tt }
+
+-- ---- answers
+
+-- what is so of an answer for all is so for one
+pub if_for : {X S : Type 0} (P : X → S → Type 0) (r : Result X OutOfMemory) (x : S) → IfOk r (λ t. (s : S) → P t s) → IfOk r (λ t. P t x)
+if_for P (Ok t) x h = h x
+if_for P (Err e) x h = tt

@@ -43,8 +43,7 @@ fn advanced(
     steps: &[SourceStep],
 ) -> Result<NextRecord, ProjectionFault>
     requires can { CanAdvance projection.old.buffer (steps_seen steps.now) sources.now (shown_now projection.old).members }
-    ensures along { GoesAlong (steps_seen steps.now) sources.now projection.old projection.new result }
-    ensures some { 0 < length projection.old.versions }
+    ensures { GoesAlong (steps_seen steps.now) sources.now projection.old projection.new result }
 {
     if projection.is_full() {
         return Err(ProjectionFault::OutOfMemory);
@@ -70,6 +69,8 @@ pub fn planned(
     match held {
         Held::Base(_) => unreachable!(),
         Held::Projection { projection, .. } => {
+            // It has a version.
+            let _now = projection.now();
             match advanced(alloc, projection, sources, steps) {
                 Ok(next) => Ok(Planned::Projection(next)),
                 Err(fault) => Err(fault),

@@ -55,8 +55,7 @@ fn respanned(
     requires part { IsPart (shown_now projection.old).members first removed members }
     requires there { All (HasSource no_steps sources.now) members }
     requires fits { members_len members ≤ 2 ^ 22 }
-    ensures respanned { Respans sources.now projection.old projection.new first removed members result }
-    ensures some { 0 < length projection.old.versions }
+    ensures { Respans sources.now projection.old projection.new first removed members result }
 {
     if projection.is_full() {
         return Err(OutOfMemory);
@@ -86,6 +85,8 @@ pub fn respan(
     match held {
         Held::Base(_) => unreachable!(),
         Held::Projection { projection, .. } => {
+            // It has a version.
+            let _now = projection.now();
             match respanned(alloc, projection, members, first, removed, sources) {
                 Ok(next) => Ok(Planned::Projection(next)),
                 Err(fault) => Err(fault),

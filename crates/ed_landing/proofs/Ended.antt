@@ -96,11 +96,6 @@ module _ (hooks : HookTable) (hs : List Held) (graph : List (List ℕ)) (on : St
       fits = fits;
     }
 
-    pub members_still : some_over Which.Members 1024 (map (member_count (rising_of (stock hs) ms).stock) (order_in graph)) ≡ None
-    members_still =
-        ap (λ xs. some_over Which.Members 1024 (map (member_count first.stock) xs)) (sym (first_order s graph first start))
-        ∙ members_fit s first.stock start.same_count (few_members s on.within) (λ c there. ap (λ (z : Rising). member_count z.stock c) h.landed ∙ landed_members s graph on.settled on.levelled on.as_long on.names pending (count s) (omega arith) c there)
-
     pub lands_all : risen none_given (rising_of (stock hs) ms) ≡ landed (stock hs) pending none_given none_given
     lands_all = ap (risen none_given) h.landed ∙ sym (landed_all s pending)
 

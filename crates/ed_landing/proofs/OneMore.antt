@@ -25,13 +25,13 @@ use Rattle.ed_sending.proofs.Groups.LandedBases.{is_reached, reached_below, reac
 use Rattle.ed_sending.proofs.Texts.PiecesAgain.{marked_length, pieces_normal, step_again}
 use Rattle.ed_held.specs.declared.held.Held.{Held}
 use Rattle.ed_held.specs.declared.moves.Move.{Move}
-use Rattle.ed_held.specs.Seen.{known, last_of, seen, stock, stock_of}
+use Rattle.ed_held.specs.Seen.{known, last_of, stock, stock_of}
 use Rattle.ed_climb.specs.Refusals.{Refuses}
 use Rattle.ed_climb.specs.Route.{AreTrue}
 use Rattle.ed_climb.specs.declared.fault.PlanFault.{PlanFault}
 use Rattle.ed_climb.proofs.Snapshots.{held_buffer}
 use Rattle.ed_held.specs.Landing.{IsNextBy}
-use Rattle.ed_landing.specs.Bases.{HasLandedAmong, IsLanded, is_met}
+use Rattle.ed_landing.specs.Bases.{HasLandedOn, IsLanded, is_met}
 use Rattle.ed_landing.specs.Landings.{Going, HaveArrived, HaveLanded, IsFirstLong, SoFar, StandOn, landing_fault, len_left}
 use Rattle.ed_landing.proofs.LandMore.{lands_too, passed_by, text_held, versions_held}
 
@@ -91,15 +91,11 @@ module _ (hooks : HookTable) (hs : List Held) (graph : List (List ℕ)) (on : St
   same_stock : stock hs' ≡ stock hs
   same_stock = ap stock_of so_far.same
 
-  buffer_is : buffer s k ≡ seen h
+  buffer_is : buffer s k ≡ (known h).buffer
   buffer_is = ap (λ z. buffer z k) (sym same_stock) ∙ held_buffer hs' k h held
 
-  seen_known : (x : Held) → (known x).buffer ≡ seen x
-  seen_known (Held.Base x) = refl
-  seen_known (Held.Projection p turns) = refl
-
   carrier_is : is_carrier (last_of (known h).buffer) ≡ is_carrier (record_now s k)
-  carrier_is = ap (λ x. is_carrier (last_of x)) (seen_known h ∙ sym buffer_is)
+  carrier_is = ap (λ x. is_carrier (last_of x)) (sym buffer_is)
 
   pub met_is : is_met h box ≡ is_reached s pending k
   met_is = ap (λ t. not t && not (nat_eq (length box) 0)) carrier_is ∙ by (is_carrier (record_now s k)) refl
@@ -157,7 +153,7 @@ module _ (hooks : HookTable) (hs : List Held) (graph : List (List ℕ)) (on : St
 
       denied_is : denied_at hooks s pending k ≡ first_denied hooks x.regions.regions (chain.now x.chain.versions) (changes_left box (chain.text_now x.chain.versions)).changes
       denied_is =
-          ap (λ (y : Buffer). first_denied hooks y.regions (now s k) (base_changes s pending k).changes) (buffer_is ∙ ap seen base_is)
+          ap (λ (y : Buffer). first_denied hooks y.regions (now s k) (base_changes s pending k).changes) (buffer_is ∙ ap (λ (x : Held). (known x).buffer) base_is)
           ∙ ap (λ n. first_denied hooks x.regions.regions n (base_changes s pending k).changes) now_is
           ∙ ap (λ (c : ChangeList). first_denied hooks x.regions.regions (chain.now x.chain.versions) c.changes) changes_are
 
@@ -181,7 +177,7 @@ module _ (hooks : HookTable) (hs : List Held) (graph : List (List ℕ)) (on : St
       left = changes_left (slice_index_or boxes k []) (chain.text_now x.chain.versions)
 
       module _ (hs'' : List Held) (ms' : List Move) (same' : map known hs'' ≡ map known hs') where
-        pub lands_on : HasLandedAmong hooks hs' hs'' ms ms' k (Held.Base x) box (Ok tt) → SoFar hooks hs graph pending (k + 1) hs'' ms' long
+        pub lands_on : HasLandedOn hooks hs' hs'' ms ms' k x box (Ok tt) → SoFar hooks hs graph pending (k + 1) hs'' ms' long
         lands_on landed = record {
           same = same' ∙ so_far.same;
           allowed = allowed_more hooks s pending k is (denied_is ∙ no_denial (first_denied hooks x.regions.regions (chain.now x.chain.versions) left.changes) (too_long left) landed.0) so_far.allowed;
@@ -208,7 +204,7 @@ module _ (hooks : HookTable) (hs : List Held) (graph : List (List ℕ)) (on : St
           | inr f ↦ absurd (let e : too_long left ≡ None = rw f refl in let g : None ≡ Some (BaseFault.Units n) = sym e ∙ h in cc)
         ]
 
-        pub long_on : (n : ℕ) → HasLandedAmong hooks hs' hs'' ms ms' k (Held.Base x) box (Err (BaseFault.Units n)) → SoFar hooks hs graph pending (k + 1) hs'' ms' (Some (unwrap_or long n))
+        pub long_on : (n : ℕ) → HasLandedOn hooks hs' hs'' ms ms' k x box (Err (BaseFault.Units n)) → SoFar hooks hs graph pending (k + 1) hs'' ms' (Some (unwrap_or long n))
         long_on n (inl memory) = absurd (cc)
         long_on n (inr fault) =
             let u : (first_denied hooks x.regions.regions (chain.now x.chain.versions) left.changes ≡ None) × (n ≡ new_len left) × (2 ^ 22 < new_len left) = units_of (first_denied hooks x.regions.regions (chain.now x.chain.versions) left.changes) n fault.0 in
@@ -242,7 +238,7 @@ module _ (hooks : HookTable) (hs : List Held) (graph : List (List ℕ)) (on : St
           by true h = absurd (cc)
           by false h = absurd (cc)
 
-      pub denied_on : (hs'' : List Held) (ms' : List Move) (region : ℕ) → HasLandedAmong hooks hs' hs'' ms ms' k (Held.Base x) box (Err (BaseFault.ReadOnly region)) → Refuses {X = Unit {0}} (landing_fault hooks s pending) (Err (PlanFault.Refused (Refusal.ReadOnly k region)))
+      pub denied_on : (hs'' : List Held) (ms' : List Move) (region : ℕ) → HasLandedOn hooks hs' hs'' ms ms' k x box (Err (BaseFault.ReadOnly region)) → Refuses {X = Unit {0}} (landing_fault hooks s pending) (Err (PlanFault.Refused (Refusal.ReadOnly k region)))
       denied_on hs'' ms' region (inl memory) = absurd (cc)
       denied_on hs'' ms' region (inr fault) =
           let d : first_denied hooks x.regions.regions (chain.now x.chain.versions) left.changes ≡ Some region = region_of (first_denied hooks x.regions.regions (chain.now x.chain.versions) left.changes) (too_long left) region (never left) fault.0 in

@@ -20,22 +20,22 @@ returns-in-Err-clause-fault c =
 pub returns-clause-fault : goal.returns-clause-fault
 returns-clause-fault c =
     let ended = ended_on_way c.args.buffers.now c.requires.kept.0 c.args.counts.now c.requires.kept.1 c.args.first c.requires.begun c.order.result.now c.order.ensures.order c.climb.new.buffers c.climb.new.moves.items c.in_default.ensures.climbed in
-    subst (λ o. Refuses o c.group_of.result) (sym ended.fault) c.group_of.ensures.fault
+    subst (λ o. Refuses o c.group_of.result) (sym ended.fault) (limits_told c.group_of.result)
 
 pub returns-clause-planned : goal.returns-clause-planned
 returns-clause-planned c =
     let ended = ended_on_way c.args.buffers.now c.requires.kept.0 c.args.counts.now c.requires.kept.1 c.args.first c.requires.begun c.order.result.now c.order.ensures.order c.climb.new.buffers c.climb.new.moves.items c.in_default.ensures.climbed in
-    if_grouped (limit_of None (counts_after c.args.counts.now c.climb.new.moves.items) c.args.first.members) c.group_of.result c.group_of.ensures.fault c.group_of.ensures.moves c.group_of.ensures.turned c.group_of.ensures.graph c.group_of.ensures.counts c.group_of.ensures.versions
+    if_grouped (limit_of None (counts_after c.args.counts.now c.climb.new.moves.items) (over_then c.climb.new.buffers c.climb.new.moves.items (order_in c.args.first.graph))) c.group_of.result c.group_of.ensures.fault c.group_of.ensures.moves c.group_of.ensures.turned c.group_of.ensures.graph c.group_of.ensures.counts c.group_of.ensures.versions
     (λ made moves turned graph counts versions limit. (ended.group made moves turned graph counts versions limit).0)
 
 pub returns-clause-outcome : goal.returns-clause-outcome
 returns-clause-outcome c =
     let ended = ended_on_way c.args.buffers.now c.requires.kept.0 c.args.counts.now c.requires.kept.1 c.args.first c.requires.begun c.order.result.now c.order.ensures.order c.climb.new.buffers c.climb.new.moves.items c.in_default.ensures.climbed in
-    if_grouped (limit_of None (counts_after c.args.counts.now c.climb.new.moves.items) c.args.first.members) c.group_of.result c.group_of.ensures.fault c.group_of.ensures.moves c.group_of.ensures.turned c.group_of.ensures.graph c.group_of.ensures.counts c.group_of.ensures.versions
+    if_grouped (limit_of None (counts_after c.args.counts.now c.climb.new.moves.items) (over_then c.climb.new.buffers c.climb.new.moves.items (order_in c.args.first.graph))) c.group_of.result c.group_of.ensures.fault c.group_of.ensures.moves c.group_of.ensures.turned c.group_of.ensures.graph c.group_of.ensures.counts c.group_of.ensures.versions
     (λ made moves turned graph counts versions limit. (ended.group made moves turned graph counts versions limit).1)
 
 pub returns-clause-versions : goal.returns-clause-versions
 returns-clause-versions c =
     let ended = ended_on_way c.args.buffers.now c.requires.kept.0 c.args.counts.now c.requires.kept.1 c.args.first c.requires.begun c.order.result.now c.order.ensures.order c.climb.new.buffers c.climb.new.moves.items c.in_default.ensures.climbed in
-    if_grouped (limit_of None (counts_after c.args.counts.now c.climb.new.moves.items) c.args.first.members) c.group_of.result c.group_of.ensures.fault c.group_of.ensures.moves c.group_of.ensures.turned c.group_of.ensures.graph c.group_of.ensures.counts c.group_of.ensures.versions
+    if_grouped (limit_of None (counts_after c.args.counts.now c.climb.new.moves.items) (over_then c.climb.new.buffers c.climb.new.moves.items (order_in c.args.first.graph))) c.group_of.result c.group_of.ensures.fault c.group_of.ensures.moves c.group_of.ensures.turned c.group_of.ensures.graph c.group_of.ensures.counts c.group_of.ensures.versions
     (λ made moves turned graph counts versions limit. (ended.group made moves turned graph counts versions limit).2)

@@ -46,4 +46,4 @@ returns-clause-leads g c =
     c.land_all.new.buffers c.land_all.ensures.same c.in_ok-moves.moves.items
     (c.in_ok-moves.ensures.landed c.args.graph.now (edits_sent (hook_table c.args.hooks.now) (stock c.args.buffers.now) c.args.edits.now) (stand_on c.args.buffers.now c.args.graph.now c.requires.kept.0 c.requires.kept.1 c.order-order.ensures.levelled)
     (subst (λ vs. HaveArrived (stock c.args.buffers.now) (edits_sent (hook_table c.args.hooks.now) (stock c.args.buffers.now) c.args.edits.now) (boxes_of vs)) (sym c.deref.ensures.value) here))
-    _ c.in_ok-share.ensures refl refl refl c.in_ok-moves.ensures.seen
+    _ c.in_ok-share.ensures refl refl c.in_ok-moves.ensures.seen
