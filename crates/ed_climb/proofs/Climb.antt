@@ -1,16 +1,14 @@
 -- One buffer further on the way.
-use Rattle.std.proofs.Common.{◌≡◌, ◌≢◌, ℕ, zero, suc, ◌-◌, ◌<◌, ◌≤◌, ◌^◌, Bool, true, false, ◌&&◌, ◌⊎◌, inl, inr, List, [], ◌∷◌, ◌++◌, length, map, fold, Option, Some, None, refl, sym, ap, ◌∙◌, subst, arith, length-set}
-use Rattle.std.specs.Prelude.{All, slice_get, slice_set, slice_index_or, option_map, nat_eq, is_some, is_none, MatchOption, unwrap_or, if◌then◌else◌}
-use Rattle.std.specs.Option.{option_map_or}
+use Rattle.std.proofs.Common.{◌≡◌, ◌≢◌, ℕ, ◌-◌, ◌<◌, ◌≤◌, ◌^◌, Bool, true, false, ◌&&◌, ◌⊎◌, inl, inr, List, [], ◌∷◌, ◌++◌, length, map, Option, Some, None, refl, sym, ap, ◌∙◌, subst, length-set}
+use Rattle.std.specs.Prelude.{All, slice_get, option_map, nat_eq, is_some, is_none, MatchOption, if◌then◌else◌}
 use Rattle.std.specs.List.{AllByRecursion as Each, list_any}
-use Rattle.std.proofs.lemmas.Bool.{cases_Bool, cases_eq, eqb-true, eq-eqb, ne_eqb}
+use Rattle.std.proofs.lemmas.Bool.{cases_Bool, cases_eq, eq-eqb, ne_eqb}
 use Rattle.std.proofs.lemmas.List.{length-map, map-append}
 use Rattle.ed_base.specs.declared.Member.{Member}
-use Rattle.ed_base.specs.Numbers.{is_among, places}
+use Rattle.ed_base.specs.Numbers.{is_among}
 use Rattle.ed_base.specs.Step.{Step}
 use Rattle.ed_base.specs.ChangeList.{change_list, new_len, step}
 use Rattle.ed_layers.specs.Records.{Record, base, projection, elision, is_carrier, is_elision, members_len, members_of, sources_of}
-use Rattle.ed_layers.specs.Bounds.{members_after}
 use Rattle.ed_layers.specs.SourceStep.{SourceStep}
 use Rattle.ed_layers.specs.CarrierStep.{all_stay, carrier_step, record_trails}
 use Rattle.ed_members.specs.Moving.{EndsInNew}
@@ -21,17 +19,16 @@ use Rattle.ed_held.specs.declared.held.Held.{Held}
 use Rattle.ed_held.specs.declared.moves.Move.{Move}
 use Rattle.ed_held.specs.declared.moves.Planned.{Planned}
 use Rattle.ed_held.specs.Advancing.{AreOfSource, CanGoOn, next_of}
-use Rattle.ed_held.specs.Following.{Follows}
 use Rattle.ed_layers.specs.Order.{overlap_fault}
 use Rattle.ed_pieces.specs.Trails.{trails_in}
 use Rattle.ed_pieces.specs.declared.trails.TrailRun.{TrailRun}
 use Rattle.ed_climb.specs.Climbing.{CanRise, HandsUp, HasNext, is_over, record_after, source_snapshots}
-use Rattle.ed_risen.specs.Founded.{Founded, Extends}
+use Rattle.ed_risen.specs.Founded.{Founded}
 use Rattle.ed_risen.specs.Growing.{Grows}
 use Rattle.ed_held.specs.Moves.{AreApart, IsPlannedAt, CanMake, changes_of, move_of, move_seen, record_of, rising_of, snapshot_after, snapshot_of, step_of, with_move}
-use Rattle.ed_risen.specs.Rising.{EndsIn, HasStepped, Inside, IsLow, IsSettled, Rises, StandInside}
+use Rattle.ed_risen.specs.Rising.{EndsIn, HasStepped, Inside, IsLow, IsSettled, Rises}
 use Rattle.ed_climb.specs.Route.{AreTrue, Climbs, IsNewest, IsReached, IsRoute, KeepTheirs, Route, newest}
-use Rattle.ed_held.specs.Seen.{known, last_of, stock, stock_of, text_of, Known}
+use Rattle.ed_held.specs.Seen.{known, last_of, stock, stock_of, text_of}
 use Rattle.ed_version.specs.declared.Snapshot.{Snapshot}
 use Rattle.ed_climb.proofs.Advanced.{map_set}
 use Rattle.ed_risen.proofs.Settled.{all_of}

@@ -1,27 +1,27 @@
 -- How many members each buffer has once the moves are made.
-use Rattle.std.proofs.Common.{◌≡◌, ℕ, ◌-◌, ◌<◌, List, [], ◌∷◌, ◌++◌, length, map, fold, Option, Some, None, refl, sym, ap, ◌∙◌}
+use Rattle.std.proofs.Common.{◌≡◌, ℕ, ◌-◌, ◌<◌, List, [], ◌∷◌, ◌++◌, length, map, fold, Option, Some, None, refl, sym, ap, ◌∙◌, arith, length-append}
 use Rattle.std.specs.Prelude.{option_map, slice_get, unwrap_or}
 use Rattle.std.specs.Option.{option_map_or}
 use Rattle.std.specs.List.{AllByRecursion as Each}
 use Rattle.ed_layers.specs.Records.{Record, base, members_of}
-use Rattle.ed_stock.specs.Stock.{Stock, Buffer, buffer, record_now}
+use Rattle.ed_stock.specs.Stock.{Stock, Buffer, buffer}
 use Rattle.ed_risen.specs.Counting.{member_count}
 use Rattle.ed_held.specs.declared.held.Held.{Held}
 use Rattle.ed_held.specs.declared.moves.Move.{Move}
 use Rattle.ed_held.specs.Making.{known_grown}
 use Rattle.ed_held.specs.Moves.{AreApart, move_of, record_of, with_move}
-use Rattle.ed_held.specs.Seen.{Known, known, last_of, stock, stock_of}
+use Rattle.ed_held.specs.Seen.{Known, known, last_of, stock}
 use Rattle.ed_climb.specs.Group.{known_moved}
 use Rattle.ed_climb.specs.Limited.{count_now, count_then}
-use Rattle.ed_risen.proofs.Growth.{missing}
+use Rattle.ed_risen.proofs.Growth.{missing, push_here}
 use Rattle.ed_risen.proofs.Lists.{get_map, got}
 use Rattle.ed_climb.proofs.Committed.{stock_folded}
 use Rattle.ed_climb.proofs.Leaving.{grown_by, moved_at}
 
 last_push : (xs : List Record) (x d : Record) → unwrap_or (slice_get (xs ++ x ∷ []) (length (xs ++ x ∷ []) - 1)) d ≡ x
-last_push [] x d = refl
-last_push (y ∷ []) x d = refl
-last_push (y ∷ z ∷ zs) x d = last_push (z ∷ zs) x d
+last_push xs x d =
+    let n : length (xs ++ x ∷ []) - 1 ≡ length xs = omega (arith, length-append xs (x ∷ [])) in
+    ap (λ k. unwrap_or (slice_get (xs ++ x ∷ []) k) d) n ∙ ap (λ o. unwrap_or o d) (push_here xs x)
 
 module _ (hs : List Held) (ms : List Move) (apart : AreApart ms) where
   abbrev ks : List Known

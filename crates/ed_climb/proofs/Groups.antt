@@ -1,5 +1,5 @@
 -- What the first versions of a group lead to.
-use Rattle.std.proofs.Common.{◌≡◌, ℕ, ◌<◌, ◌^◌, Bool, true, false, List, [], ◌∷◌, length, map, fold, Option, Some, None, Result, Ok, Err, refl, sym, ap, ◌∙◌, subst, inl, inr, le-ltb}
+use Rattle.std.proofs.Common.{◌≡◌, ℕ, ◌<◌, ◌^◌, true, List, [], length, map, fold, Option, Some, None, Result, Ok, Err, refl, sym, ap, ◌∙◌, subst, inl, inr}
 use Rattle.std.specs.Prelude.{IfOk, MatchOption, slice_get}
 use Rattle.std.specs.Option.{option_map_or}
 use Rattle.std.specs.List.{AllByRecursion as Each}
@@ -12,8 +12,8 @@ use Rattle.ed_graph.specs.Standing.{height_in, order_in}
 use Rattle.ed_layers.specs.SourceStep.{SourceStep}
 use Rattle.ed_project.specs.declared.ProjectionFault.{ProjectionFault}
 use Rattle.ed_stock.specs.Limits.{over, some_over, stock_limits}
-use Rattle.ed_stock.specs.Stock.{Stock, count, graph_order, now, record_at, record_now, sources_now, text_now}
-use Rattle.ed_stock.specs.Versions.{Rising, none_given, risen, risen_at, versions_made}
+use Rattle.ed_stock.specs.Stock.{Stock, count, graph_order, now, record_at, sources_now, text_now}
+use Rattle.ed_stock.specs.Versions.{Rising, none_given, risen, versions_made}
 use Rattle.ed_risen.specs.Counting.{member_count, turned_in}
 use Rattle.ed_risen.specs.Founded.{Extends}
 use Rattle.ed_climb.specs.Refusals.{Refuses}
@@ -35,8 +35,7 @@ use Rattle.ed_held.specs.declared.held.Held.{Held}
 use Rattle.ed_held.specs.declared.moves.Move.{Move}
 use Rattle.ed_risen.proofs.FoundedLemmas.{each_weaker}
 use Rattle.ed_risen.proofs.Limits.{few_buffers, units_fit}
-use Rattle.ed_risen.proofs.RisingLemmas.{same_record_now}
-use Rattle.ed_risen.proofs.Starts.{all_there, count_left, few_left, linked_left, order_left, order_there, risen_is}
+use Rattle.ed_risen.proofs.Starts.{all_there, count_left, few_left, linked_left, order_left, risen_is}
 use Rattle.ed_risen.proofs.Turning.{same_now, same_records, turned_limits}
 use Rattle.ed_climb.proofs.AddedUp.{all_counts}
 use Rattle.ed_climb.proofs.Committed.{stock_folded}
@@ -129,7 +128,7 @@ module _ (hs : List Held) (graph : List (List ℕ)) (counts : Counts) (kept : Is
     ordered = ap (λ (u : Rising). graph_order u.stock) (sym climbs.folded) ∙ order_left s g first begins.is_start
 
     -- the members of all buffers, counted anew
-    order_held : Each (λ b. b < length hs₂) (order_in g)
+    pub order_held : Each (λ b. b < length hs₂) (order_in g)
     order_held = each_weaker (λ b. b < count s) (λ b. b < length hs₂) (λ b l. subst (λ n. b < n) (ap (λ xs. count (stock_of xs)) (sym climbs.same) ∙ held_count hs₂) l) (order_in g) (all_there s g first begins.is_start)
 
     limited : some_over Which.Members 1024 (map (member_count t) (graph_order t)) ≡ over_then hs₂ ms (order_in g)
@@ -258,6 +257,7 @@ module _ (hs : List Held) (graph : List (List ℕ)) (counts : Counts) (kept : Is
 
   -- once the way is gone
   pub record Ends (hs₂ : List Held) (ms : List Move) : Type 0 where
+    pub there : Each (λ b. b < length hs₂) (order_in f.graph)
     pub fault : first_some (stock_limits (landed_from (stock hs) f).stock) ≡ limit_of None (counts_after counts ms) (over_then hs₂ ms (order_in f.graph))
     pub group : (plan : Plan) → plan.moves ≡ ms → plan.turned ≡ f.turned → plan.graph ≡ f.graph → plan.counts ≡ counts_after counts ms → plan.versions ≡ map told ms → limit_of None (counts_after counts ms) (over_then hs₂ ms (order_in f.graph)) ≡ None
         → IsPlanned hs₂ plan × (outcome (stock hs) plan ≡ (landed_from (stock hs) f).stock) × (plan.versions ≡ versions_made (landed_from (stock hs) f))
@@ -266,6 +266,7 @@ module _ (hs : List Held) (graph : List (List ℕ)) (counts : Counts) (kept : Is
   ended_on_way hs₂ ms climbed =
       let end : HasClimbed the_way (order_in f.graph) hs₂ ms (Ok tt) = climbed_by hs₂ ms (Ok tt) climbed in
       record {
+        there = order_held hs graph counts kept f.graph f.moves.items begun.begins.0 begun.begins.1 begun.begins.2 hs₂ end.0 ms end.1;
         fault = fault_is hs graph counts kept f.graph f.moves.items begun.begins.0 begun.begins.1 begun.begins.2 hs₂ end.0 ms end.1 f.turned begun.turning;
         group = λ plan moves turned graph_is counts_are versions limit. (
           group_planned hs graph counts kept f.graph f.moves.items begun.begins.0 begun.begins.1 begun.begins.2 hs₂ end.0 ms end.1 f.turned begun.turning plan moves turned graph_is counts_are versions limit,

@@ -16,7 +16,7 @@ use Rattle.ed_held.specs.Making.{known_grown}
 use Rattle.ed_climb.specs.Group.{known_moved, set_known}
 use Rattle.ed_climb.specs.Kept.{IsKept}
 use Rattle.ed_risen.specs.Laws.{OneVector}
-use Rattle.ed_held.specs.Moves.{step_of, AreApart, changes_of, move_of, rising_of, snapshot_of, with_move}
+use Rattle.ed_held.specs.Moves.{step_of, AreApart, move_of, rising_of, snapshot_of, with_move}
 use Rattle.ed_risen.specs.Rising.{HasStepped, IsSettled, Rises}
 use Rattle.ed_climb.specs.Route.{IsNewest, newest}
 use Rattle.ed_held.specs.Seen.{Known, known, stock, stock_of}
@@ -31,8 +31,6 @@ use Rattle.ed_risen.proofs.Lists.{clash}
 use Rattle.ed_climb.proofs.Moved.{step_of_move}
 use Rattle.ed_risen.proofs.Texts.{same_text}
 use Rattle.ed_climb.proofs.Snapshots.{found_buffer, found_each}
-use Rattle.ed_base.specs.ChangeList.{step}
-use Rattle.ed_risen.proofs.Turns.{turns}
 
 -- ---- what is known of one buffer then
 

@@ -1,15 +1,14 @@
 -- The snapshots and steps that a buffer on the way is shown.
-use Rattle.std.proofs.Common.{◌≡◌, ℕ, zero, suc, ◌+◌, ◌-◌, ◌<◌, ◌≤◌, Bool, true, false, inl, inr, List, [], ◌∷◌, length, map, Option, Some, None, refl, sym, ap, ◌∙◌, subst, arith}
+use Rattle.std.proofs.Common.{◌≡◌, ℕ, ◌+◌, ◌-◌, ◌<◌, ◌≤◌, Bool, true, false, inl, inr, List, [], ◌∷◌, length, map, Option, Some, None, refl, sym, ap, ◌∙◌, subst}
 use Rattle.std.specs.Prelude.{All, slice_get, unwrap_or, nat_eq, MatchOption, if◌then◌else◌}
 use Rattle.std.specs.Option.{option_map_or}
 use Rattle.std.specs.List.{AllByRecursion as Each, enumerate_from}
 use Rattle.std.proofs.lemmas.Bool.{eqb-true}
-use Rattle.std.proofs.lemmas.List.{length-map}
 use Rattle.ed_base.specs.declared.Member.{Member}
 use Rattle.ed_base.specs.declared.Span.{Span}
 use Rattle.ed_base.specs.declared.SpanMode.{SpanMode}
 use Rattle.ed_base.specs.Spans.{end_of}
-use Rattle.ed_layers.specs.Records.{base, version_in}
+use Rattle.ed_layers.specs.Records.{version_in}
 use Rattle.ed_layers.specs.Cells.{text}
 use Rattle.ed_layers.specs.SourceStep.{SourceStep, trail_at, ends_with}
 use Rattle.ed_layers.specs.Bounds.{Placed, member_after, new_bounds, placed_on}

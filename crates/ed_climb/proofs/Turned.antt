@@ -15,11 +15,11 @@ use Rattle.ed_held.specs.declared.moves.Planned.{Planned}
 use Rattle.ed_pieces.specs.declared.trails.TrailRun.{TrailRun}
 use Rattle.ed_climb.specs.Climbing.{CanRise, HasRisen, HasRisenWith, HasTurned, Rested, TurnedBy, WentAlong, goes, move_to, record_after}
 use Rattle.ed_climb.specs.Route.{Climbs, IsRoute, IsTooLong, Route}
-use Rattle.ed_held.specs.Seen.{known, stock, stock_of}
+use Rattle.ed_held.specs.Seen.{known, stock_of}
 use Rattle.ed_climb.proofs.Climb.{can_rise, climbs_on, moves_here, passes}
 use Rattle.ed_held.specs.Moves.{move_seen, rising_of}
 use Rattle.ed_climb.proofs.Moved.{seen_steps}
-use Rattle.ed_risen.proofs.Turns.{rests, turns}
+use Rattle.ed_risen.proofs.Turns.{rests}
 
 pub steps_are : (shown steps : List SourceSteps) (ms : List Move) → shown ≡ steps → map (λ x. (x.source, step_seen x)) steps ≡ map move_seen ms → steps_seen shown ≡ step_in (map move_seen ms)
 steps_are shown steps ms same seen = ap steps_seen same ∙ seen_steps steps ∙ ap step_in seen

@@ -1,36 +1,26 @@
 -- A stock of which one buffer has turned once more is kept.
-use Rattle.std.proofs.Common.{◌≡◌, ℕ, ◌-◌, ◌<◌, ◌≤◌, ◌^◌, Bool, true, false, List, [], ◌∷◌, length, map, Option, Some, None, refl, sym, ap, ◌∙◌, subst, length-set, ◌+◌, arith}
-use Rattle.std.specs.Prelude.{nat_eq, option_map, slice_get, slice_set, unwrap_or, if◌then◌else◌, MatchOption}
+use Rattle.std.proofs.Common.{◌≡◌, ℕ, ◌<◌, Bool, true, false, List, length, map, Option, Some, None, refl, sym, ap, ◌∙◌, subst, length-set}
+use Rattle.std.specs.Prelude.{nat_eq, option_map, slice_get, slice_set, if◌then◌else◌, MatchOption}
 use Rattle.std.specs.Option.{option_map_or}
-use Rattle.std.specs.List.{AllByRecursion as Each}
-use Rattle.ed_base.specs.declared.Member.{Member}
-use Rattle.ed_base.specs.declared.Which.{Which}
 use Rattle.ed_base.specs.Numbers.{first_some, places}
-use Rattle.ed_base.specs.Spans.{end_of}
-use Rattle.ed_layers.specs.Cells.{text, vector}
-use Rattle.ed_layers.specs.Graph as order
-use Rattle.ed_layers.specs.Records.{Record, base, elision, members_of, projection, sources_of, is_carrier}
-use Rattle.ed_stock.specs.Limits.{inserted, over, placements, some_over, stock_limits, versions}
-use Rattle.ed_stock.specs.Stock.{Stock, buffer, count, graph_order, now, record_at, record_now, sources_now, text_at, text_now, Buffer}
+use Rattle.ed_layers.specs.Cells.{text}
+use Rattle.ed_stock.specs.Limits.{inserted, placements, stock_limits, versions}
+use Rattle.ed_stock.specs.Stock.{buffer, count, sources_now, text_at}
 use Rattle.ed_climb.specs.declared.counts.Counts.{Counts}
-use Rattle.ed_risen.specs.Founded.{Founded}
 use Rattle.ed_held.specs.Making.{known_turned, CanTurn}
 use Rattle.ed_climb.specs.Group.{set_known, MayTurn}
 use Rattle.ed_risen.specs.Counting.{turn, turned_in}
 use Rattle.ed_climb.specs.Kept.{IsKept}
-use Rattle.ed_risen.specs.Laws.{HasOneVersionEach, OneVector}
-use Rattle.ed_risen.specs.Rising.{EndsIn, Inside, IsNow, IsSettled}
-use Rattle.ed_held.specs.Seen.{Known, stock_of, known, last_of, stock}
+use Rattle.ed_risen.specs.Laws.{OneVector}
+use Rattle.ed_risen.specs.Rising.{IsSettled}
+use Rattle.ed_held.specs.Seen.{Known, stock_of, known, stock}
 use Rattle.ed_climb.proofs.Committed.{stock_set}
 use Rattle.ed_risen.proofs.Counting.{inserted_turned, placements_turned, versions_turned}
-use Rattle.ed_risen.proofs.FoundedLemmas.{each_weaker}
 use Rattle.ed_climb.proofs.Leaving.{set_at}
-use Rattle.ed_risen.proofs.Turning.{turned_records, same_names, same_records, turned_limits, turned_one, turned_settled}
+use Rattle.ed_risen.proofs.Turning.{same_names, same_records, turned_limits, turned_one, turned_settled}
 use Rattle.ed_held.proofs.KindLemmas.{turn_kept}
 use Rattle.ed_climb.proofs.Asked.{held_at, held_is, held_some}
-use Rattle.ed_risen.proofs.Turns.{turns}
 use Rattle.ed_held.specs.declared.held.Held.{Held}
-use Rattle.std.proofs.lemmas.List.{length-map}
 
 -- of what is known
 module _ (ks : List Known) (b : ℕ) (graph : List (List ℕ)) (counts : Counts) (kept : IsKept ks graph counts) (there : b < count (stock_of ks)) where

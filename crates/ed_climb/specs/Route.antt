@@ -16,7 +16,7 @@ use Rattle.ed_held.specs.declared.moves.Move.{Move}
 use Rattle.ed_climb.specs.Climbing.{record_after}
 use Rattle.ed_held.specs.Moves.{AreApart, IsPlannedAt, move_of, move_seen, rising_of, snapshot_of}
 use Rattle.ed_risen.specs.Rising.{IsSettled, Rises}
-use Rattle.ed_held.specs.Seen.{Known, known, stock, stock_of}
+use Rattle.ed_held.specs.Seen.{Known, known, stock_of}
 
 -- The buffers before, their heights, those that may have other sources than before, those that are done before the way begins, and what has happened by then.
 pub record Route : Type 0 where

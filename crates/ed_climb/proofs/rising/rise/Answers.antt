@@ -1,4 +1,4 @@
-use Rattle.std.proofs.Common.{◌≡◌, Ok, Some, sym, ap, ◌∙◌}
+use Rattle.std.proofs.Common.{ap, ◌∙◌}
 use Rattle.ed_layers.specs.Records.{is_carrier}
 use Rattle.ed_members.specs.Steps.{steps_seen}
 use Rattle.ed_risen.proofs.Lists.{got}
