@@ -24,31 +24,12 @@ use Rattle.ed_stock.specs.Stock.{Stock, count, reaches, record_now, sources_now,
 use Rattle.ed_stock.specs.Landing.{carriers_down, pieces_at, sent_down}
 use Rattle.ed_sending.specs.OneCarrierEach.{HasOneCarrierEach}
 use Rattle.ed_sending.proofs.Lists.SortedParts.{Each}
+use Rattle.ed_sending.proofs.Carriers.NothingArrived.{nothing_arrived}
 use Rattle.ed_sending.proofs.Members.DealtPieces.{flat_none}
 use Rattle.ed_sending.proofs.Groups.SendingOrder.{height_low, height_now}
 use Rattle.ed_sending.proofs.Groups.Arrivals.{AreLower, arrives_all, none_sent, no_higher, send}
 
 -- ---- nothing that arrives
-
-nothing_woven : {X : Type 0} (p : ℕ) (xs : List X) → woven (λ q. []) (λ q. false) p xs ≡ xs
-nothing_woven p [] = refl
-nothing_woven p (x ∷ xs) = ap (λ ys. x ∷ ys) (nothing_woven (p + 1) xs)
-
-nothing_between : {X C : Type 0} (make : ℕ → ℕ → List X → C) (new : List X) (i k n : ℕ) → n ≡ i + k → components make new i i (run i i k) n n ≡ []
-nothing_between make new i zero n end = let e : nat_eq i n ≡ true = grind (arith, nat_tests) in rw e refl
-nothing_between make new i (suc k) n end =
-    let e : nat_eq i i ≡ true = grind (arith, nat_tests) in
-    rw e (nothing_between make new (i + 1) k n (omega arith))
-
-pub nothing_arrived : (n : ℕ) → arrived [] n ≡ []
-unfolding arrived
-nothing_arrived n =
-    let same : piece_origins [] n ≡ olds 0 n = nothing_woven 0 (olds 0 n) in
-    let kept : pairs_from 0 (piece_origins [] n) ≡ run 0 0 n = ap (pairs_from 0) same ∙ pairs_olds 0 0 n in
-    let len : length (piece_origins [] n) ≡ n = ap length same ∙ length-map (range_with_len 0 n) (λ p. Some p) ∙ length-range_with_len 0 n in
-    ap (λ k. components component (marked_text [] (replicate n 0)) 0 0 k n (length (piece_origins [] n))) kept
-    ∙ ap (λ m. components component (marked_text [] (replicate n 0)) 0 0 (run 0 0 n) n m) len
-    ∙ nothing_between component (marked_text [] (replicate n 0)) 0 n n (omega arith)
 
 -- a carrier at which nothing arrives sends nothing
 nothing_sent : (hooks : HookTable) (s : Stock) (c : ℕ) → send hooks s c [] ≡ []
