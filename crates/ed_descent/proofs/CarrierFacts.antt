@@ -17,13 +17,13 @@ use Rattle.ed_pieces.specs.Arrivals.{AllWithin, units_put_in}
 use Rattle.ed_resolve.specs.Faults.{EndsShort}
 use Rattle.ed_sending.proofs.Lists.SortedParts.{Each, each_more}
 use Rattle.ed_sending.proofs.Carriers.ArrivedUnits.{arrived_units}
-use Rattle.ed_sending.proofs.Carriers.NewText.{AreFitting, text_of, units_of}
-use Rattle.ed_sending.proofs.Groups.AcceptedEdit.{IsReady}
 use Rattle.ed_sending.proofs.Groups.SentInside.{IsInside, sent_inside}
 use Rattle.ed_sending.proofs.Groups.SentUnits.{sent_units}
 use Rattle.ed_stock.specs.Landing.{resolver_of}
 use Rattle.ed_stock.specs.Stock.{Stock, count, record_now, text_now}
 use Rattle.ed_descent.proofs.UnitSums.{all_units}
+use Rattle.ed_sending.specs.Ready.{AreFitting, IsReady}
+use Rattle.ed_layers.specs.Texts.{member_text, text_over}
 
 -- ---- members
 
@@ -37,11 +37,11 @@ each_placed P members k (m ∷ ms) same all = (
 each_member : (P : Member → Type 0) (members : List Member) → ((j : ℕ) (m : Member) → slice_get members j ≡ Some m → P m) → Each P members
 each_member P members all = each_placed P members 0 members (λ d. ap (slice_get members) (let e : d ≡ 0 + d = omega arith in e)) all
 
-text_len : (texts : ℕ → List ℕ) (ms : List Member) → Each (λ m. length (units_of texts m) ≡ member_len m) ms → length (text_of texts ms) ≡ members_len ms
+text_len : (texts : ℕ → List ℕ) (ms : List Member) → Each (λ m. length (member_text texts m) ≡ member_len m) ms → length (text_over texts ms) ≡ members_len ms
 text_len texts [] all = refl
-text_len texts (m ∷ ms) all = length-append (units_of texts m) (text_of texts ms) ∙ ap (λ n. n + length (text_of texts ms)) all.0 ∙ ap (λ n. member_len m + n) (text_len texts ms all.1) ∙ sym (sum_by-cons member_len m ms)
+text_len texts (m ∷ ms) all = length-append (member_text texts m) (text_over texts ms) ∙ ap (λ n. n + length (text_over texts ms)) all.0 ∙ ap (λ n. member_len m + n) (text_len texts ms all.1) ∙ sym (sum_by-cons member_len m ms)
 
-part_len : (texts : ℕ → List ℕ) (members : List Member) → AreFitting members texts → (k : ℕ) (m : Member) → slice_get members k ≡ Some m → length (units_of texts m) ≡ member_len m
+part_len : (texts : ℕ → List ℕ) (members : List Member) → AreFitting members texts → (k : ℕ) (m : Member) → slice_get members k ≡ Some m → length (member_text texts m) ≡ member_len m
 part_len texts members fitting k (Member.Literal units) here = refl
 part_len texts members fitting k (Member.Tracked source x mode) here =
     let within : end_of x ≤ length (texts source) = fitting.inside k source x mode here in
@@ -65,8 +65,8 @@ module _ (s : Stock) (ready : IsReady s) (c : ℕ) (there : c < count s) (carrie
   pub carrier_len : length (text_now s c) ≡ members_len (members_of (record_now s c))
   carrier_len =
       ap length (ready.deep c record_is.0 record_is.1 record_is.2)
-      ∙ ap (λ (r : Record). length (text_of (text_now s) (members_of r))) (sym record_is.2)
-      ∙ text_len (text_now s) (members_of (record_now s c)) (each_member (λ m. length (units_of (text_now s) m) ≡ member_len m) (members_of (record_now s c)) (part_len (text_now s) (members_of (record_now s c)) fitting_now))
+      ∙ ap (λ (r : Record). length (text_over (text_now s) (members_of r))) (sym record_is.2)
+      ∙ text_len (text_now s) (members_of (record_now s c)) (each_member (λ m. length (member_text (text_now s) m) ≡ member_len m) (members_of (record_now s c)) (part_len (text_now s) (members_of (record_now s c)) fitting_now))
 
   source_there : (k b : ℕ) (x : Span) (mode : SpanMode) → slice_get (members_of (record_now s c)) k ≡ Some (Member.Tracked b x mode) → b < count s
   source_there k b x mode at = (ready.named c record_is.0 record_is.1 record_is.2 k b x mode (ap (λ (r : Record). slice_get (members_of r) k) (sym record_is.2) ∙ at)).1

@@ -25,12 +25,12 @@ use Rattle.ed_sending.proofs.Texts.FullText.{Full, full_text, old_units}
 use Rattle.ed_sending.proofs.Carriers.CarrierText.{AllCutsRise}
 use Rattle.ed_sending.proofs.Carriers.SlotReadings.{map_twice, place_told, trail_told}
 use Rattle.ed_sending.proofs.Carriers.SlotPlaces.{slot_of}
-use Rattle.ed_sending.proofs.Carriers.NewText.{text_of}
 use Rattle.ed_sending.proofs.Texts.FilteredText.{passing, full_passing}
 use Rattle.ed_sending.proofs.Lists.Subsequences.{Sub, sub_trans, sub_map, sub_filter, filter_sub, filter_map_is}
 use Rattle.ed_sending.proofs.Shared.SourceSigns.{Sign, sign_of, is_told, IsSigned, IsSignedBy, Comes, sign_at, signs_tell, signs_past, ends_at, range_sub, map_get, map_alike, sub_both}
 use Rattle.ed_sending.proofs.Elisions.ShownUnits.{shows_sign, ranked, among_filter}
 use Rattle.ed_sending.proofs.Elisions.Ranks.{ms, parts, own, raised, raised_full, ranked_full}
+use Rattle.ed_layers.specs.Texts.{text_over}
 
 not_placed : (source o k : ℕ) (xs : List ℕ) → list_any (λ x. nat_eq o x) xs ≡ false → position_from (is_same_slot (slot_of 0 (Some source) o)) k (map (slot_of 0 (Some source)) xs) ≡ None
 not_placed source o k [] none = refl
@@ -135,7 +135,7 @@ module _ (carrier source : ℕ) (flags : List Bool) (resolver : Option CutRules)
 
   -- whatever is hidden then
   pub shown_among : (arrives : List Piece) (flags' : List Bool) → Comes (steps source) arrives (texts source) → passing (ends_at carrier) arrives ≡ own carrier source flags resolver pieces texts size → AllCutsRise (ms carrier source flags resolver pieces texts size) resolver (parts carrier source flags resolver pieces texts size) →
-      Sub (filter is_told (map slot_sign (map (slot_of 0 (Some source)) (filter (is_shown flags') (places (length flags')))))) (map sign_of (full_text pieces (text_of texts (ms carrier source flags resolver pieces texts size))))
+      Sub (filter is_told (map slot_sign (map (slot_of 0 (Some source)) (filter (is_shown flags') (places (length flags')))))) (map sign_of (full_text pieces (text_over texts (ms carrier source flags resolver pieces texts size))))
   shown_among arrives flags' comes given cuts =
       subst (λ z. Sub (filter is_told (map slot_sign (map (slot_of 0 (Some source)) (filter (is_shown flags') (places (length flags')))))) z) (ranked_full carrier source flags resolver pieces texts size cuts)
       (subst (λ z. Sub (filter is_told z) (map (λ (f : Full). ranked carrier source flags (sign_of f)) T)) (sym (shown_signs flags')) chain)
@@ -196,7 +196,7 @@ module _ (carrier source : ℕ) (flags : List Bool) (resolver : Option CutRules)
 
   -- The step of an elision buffer, whatever is hidden then.
   pub elision_comes : (arrives : List Piece) (flags' : List Bool) (v w : ℕ) → Comes (steps source) arrives (texts source) → passing (ends_at carrier) arrives ≡ own carrier source flags resolver pieces texts size → AllCutsRise (ms carrier source flags resolver pieces texts size) resolver (parts carrier source flags resolver pieces texts size) →
-      Comes (Some (record { step = carrier_step all_stay steps (elision flags source v) (elision flags' source w); trails = record_trails carrier true steps (elision flags' source w) })) pieces (text_of texts (ms carrier source flags resolver pieces texts size))
+      Comes (Some (record { step = carrier_step all_stay steps (elision flags source v) (elision flags' source w); trails = record_trails carrier true steps (elision flags' source w) })) pieces (text_over texts (ms carrier source flags resolver pieces texts size))
   elision_comes arrives flags' v w comes given cuts = record {
     signs = map slot_sign (map (slot_of 0 (Some source)) (filter (is_shown flags') (places (length flags'))));
     signed = signed_by flags' v w;
@@ -206,10 +206,10 @@ module _ (carrier source : ℕ) (flags : List Bool) (resolver : Option CutRules)
 -- ---- its source didn't step
 
 -- what is shown of a text that stays is the old text
-pub raised_old : (carrier source : ℕ) (flags : List Bool) (texts : ℕ → List ℕ) → length (texts source) ≡ length flags → map (raised carrier source flags) (filter (λ f. shows_sign carrier flags (sign_of f)) (old_units 0 (texts source))) ≡ old_units 0 (text_of texts (map (tracked source) (runs (is_shown flags) (length flags))))
+pub raised_old : (carrier source : ℕ) (flags : List Bool) (texts : ℕ → List ℕ) → length (texts source) ≡ length flags → map (raised carrier source flags) (filter (λ f. shows_sign carrier flags (sign_of f)) (old_units 0 (texts source))) ≡ old_units 0 (text_over texts (map (tracked source) (runs (is_shown flags) (length flags))))
 raised_old carrier source flags texts size =
     let members : List Member = map (tracked source) (runs (is_shown flags) (length flags)) in
-    let text : List ℕ = text_of texts members in
+    let text : List ℕ = text_over texts members in
     let none : arrived [] (length text) ≡ [] = nothing_arrived (length text) in
     let cuts : AllCutsRise members None (arrived [] (length text)) = subst (AllCutsRise members None) (sym none) tt in
     ap (λ z. map (raised carrier source flags) (filter (λ f. shows_sign carrier flags (sign_of f)) z)) (sym (ap (λ cs. full_text (pieces_at (sent carrier members None cs) source) (texts source)) none ∙ nothing_full (texts source)))
@@ -219,7 +219,7 @@ raised_old carrier source flags texts size =
 -- an elision buffer whose source didn't step doesn't step either
 pub still_elision : (carrier source : ℕ) (flags : List Bool) (resolver : Option CutRules) (pieces : List Piece) (texts : ℕ → List ℕ) (size : length (texts source) ≡ length flags) (steps : ℕ → Option SourceStep) → steps source ≡ None → (arrives : List Piece) →
     Comes (steps source) arrives (texts source) → passing (ends_at carrier) arrives ≡ own carrier source flags resolver pieces texts size → AllCutsRise (ms carrier source flags resolver pieces texts size) resolver (parts carrier source flags resolver pieces texts size) →
-    Comes None pieces (text_of texts (ms carrier source flags resolver pieces texts size))
+    Comes None pieces (text_over texts (ms carrier source flags resolver pieces texts size))
 still_elision carrier source flags resolver pieces texts size steps none arrives comes given cuts = record {
   signs = map sign_of (old_units 0 text);
   signed = refl;
@@ -227,7 +227,7 @@ still_elision carrier source flags resolver pieces texts size steps none arrives
 }
   where
     text : List ℕ
-    text = text_of texts (ms carrier source flags resolver pieces texts size)
+    text = text_over texts (ms carrier source flags resolver pieces texts size)
 
     many : length flags ≡ length (old_units 0 (texts source))
     many = sym size ∙ sym (length_old 0 (texts source))

@@ -1,5 +1,5 @@
 -- An elision buffer whose source stepped by its own pieces alone steps by the pieces that arrived there, and so its text is what they make of the old one.
-use Rattle.std.proofs.Common.{◌≡◌, ℕ, zero, suc, ◌+◌, ◌-◌, ◌<◌, ◌≤◌, Bool, true, false, not, ◌&&◌, ◌||◌, List, [], ◌∷◌, ◌++◌, length, map, filter, Option, Some, None, refl, sym, ap, ◌∙◌, arith, subst, if◌then◌else◌}
+use Rattle.std.proofs.Common.{◌≡◌, ℕ, zero, suc, ◌+◌, ◌-◌, ◌<◌, ◌≤◌, Bool, true, false, not, ◌&&◌, ◌||◌, List, [], ◌∷◌, ◌++◌, length, map, filter, Option, Some, None, refl, sym, ap, ◌∙◌, arith, subst}
 use Rattle.std.specs.Prelude.{nat_eq, slice_get}
 use Rattle.std.specs.Option.{option_map_or}
 use Rattle.std.specs.List.{range_with_len}
@@ -8,7 +8,7 @@ use Rattle.ed_base.specs.declared.piece.Piece.{Piece}
 use Rattle.ed_base.specs.Hooks.{CutRules}
 use Rattle.ed_base.specs.Numbers.{places}
 use Rattle.ed_base.specs.Step.{pairs_from}
-use Rattle.ed_layers.specs.CarrierStep.{Slot, carrier_step, record_trails, all_stay}
+use Rattle.ed_layers.specs.CarrierStep.{carrier_step, record_trails, all_stay}
 use Rattle.ed_layers.specs.Hidden.{hidden_after, flags_after, among_hidden, kept_left, kept_right}
 use Rattle.ed_layers.specs.Pieces.{put_at, gone_at}
 use Rattle.ed_layers.specs.Records.{elision, is_shown, is_hidden, tracked}
@@ -30,12 +30,13 @@ use Rattle.ed_sending.proofs.Carriers.CarrierText.{AllCutsRise}
 use Rattle.ed_sending.proofs.Carriers.SentPieces.{all_for}
 use Rattle.ed_sending.proofs.Carriers.SlotReadings.{Tells, map_twice, trail_told}
 use Rattle.ed_sending.proofs.Carriers.SlotPlaces.{slot_of}
-use Rattle.ed_sending.proofs.Carriers.NewText.{StepsBy, text_of}
+use Rattle.ed_sending.proofs.Carriers.NewText.{StepsBy}
 use Rattle.ed_sending.proofs.Shared.SourceSigns.{Sign, sign_of, IsSigned, sign_at, ends_at}
 use Rattle.ed_sending.proofs.Elisions.ShownMembers.{each_at}
 use Rattle.ed_sending.proofs.Elisions.ShownUnits.{shows_sign, ranked}
 use Rattle.ed_sending.proofs.Elisions.Ranks.{ms, parts, own, raised, raised_full, ranked_full}
 use Rattle.ed_sending.proofs.Elisions.ElisionSigns.{filter_get, raised_old, shown_signs, signed_by, slot_sign}
+use Rattle.ed_layers.specs.Texts.{text_over}
 
 -- the hidden places once the source has stepped, or stayed
 abbrev pub flags_then : ℕ → List Bool → Option SourceStep → List Bool
@@ -87,15 +88,15 @@ range_units text p n within = ap (λ k. take k (drop p text)) (let e : p + n - p
     taken (suc p) (suc n) (u ∷ us) within = taken p (suc n) us (omega arith) ∙ later u us p (suc n)
 
 -- members in line show the units at their places
-line_units : (texts : ℕ → List ℕ) (source : ℕ) (xs : List Span) → Each (λ x. end_of x ≤ length (texts source)) xs → text_of texts (map (tracked source) xs) ≡ map (unit_at (texts source)) (places_of xs)
+line_units : (texts : ℕ → List ℕ) (source : ℕ) (xs : List Span) → Each (λ x. end_of x ≤ length (texts source)) xs → text_over texts (map (tracked source) xs) ≡ map (unit_at (texts source)) (places_of xs)
 line_units texts source [] inside = refl
 line_units texts source (x ∷ xs) inside =
-    ap (λ z. z ++ text_of texts (map (tracked source) xs)) (range_units (texts source) x.start x.len inside.0)
+    ap (λ z. z ++ text_over texts (map (tracked source) xs)) (range_units (texts source) x.start x.len inside.0)
     ∙ ap (λ z. map (unit_at (texts source)) (range_with_len x.start x.len) ++ z) (line_units texts source xs inside.1)
     ∙ sym (map-append (unit_at (texts source)) (range_with_len x.start x.len) (places_of xs))
 
 -- The text of an elision buffer has the units that it shows.
-pub shown_units : (texts : ℕ → List ℕ) (source : ℕ) (flags : List Bool) → length (texts source) ≡ length flags → text_of texts (map (tracked source) (runs (is_shown flags) (length flags))) ≡ map (unit_at (texts source)) (filter (is_shown flags) (places (length flags)))
+pub shown_units : (texts : ℕ → List ℕ) (source : ℕ) (flags : List Bool) → length (texts source) ≡ length flags → text_over texts (map (tracked source) (runs (is_shown flags) (length flags))) ≡ map (unit_at (texts source)) (filter (is_shown flags) (places (length flags)))
 shown_units texts source flags size =
     line_units texts source (runs (is_shown flags) (length flags)) (subst (λ n. Each (λ x. end_of x ≤ n) (runs (is_shown flags) (length flags))) (sym size) (runs_end (is_shown flags) (length flags)))
     ∙ ap (map (unit_at (texts source))) (sym (runs_places (is_shown flags) (length flags)))
@@ -179,27 +180,27 @@ module _ (carrier source : ℕ) (flags : List Bool) (resolver : Option CutRules)
     tells_all : Tells (steps source) F
     tells_all = step_tells (steps source) pieces_own (texts source) by_own
 
-    new_signs : map (slot_sign carrier source flags resolver pieces texts size steps) (map (slot_of 0 (Some source)) (filter (is_shown after) (places (length after)))) ≡ map sign_of (full_text pieces (text_of texts (ms carrier source flags resolver pieces texts size)))
+    new_signs : map (slot_sign carrier source flags resolver pieces texts size steps) (map (slot_of 0 (Some source)) (filter (is_shown after) (places (length after)))) ≡ map sign_of (full_text pieces (text_over texts (ms carrier source flags resolver pieces texts size)))
     new_signs =
         shown_signs carrier source flags resolver pieces texts size steps after
         ∙ shown_read (λ q. ranked carrier source flags (sign_at (steps source) q)) (λ (f : Full). ranked carrier source flags (sign_of f)) (λ d f is. (let t = tells_all d f is in ap (λ z. ranked carrier source flags (z, trail_told (steps source) d)) t.0 ∙ ap (λ z. ranked carrier source flags (f.0, z)) t.1))
         ∙ ranked_full carrier source flags resolver pieces texts size cuts
 
     -- It steps by the pieces that arrived there.
-    pub elision_steps : (v w : ℕ) → IsStepTo (record { step = carrier_step all_stay steps (elision flags source v) (elision after source w); trails = record_trails carrier true steps (elision after source w) }) (full_text pieces (text_of texts (ms carrier source flags resolver pieces texts size)))
+    pub elision_steps : (v w : ℕ) → IsStepTo (record { step = carrier_step all_stay steps (elision flags source v) (elision after source w); trails = record_trails carrier true steps (elision after source w) }) (full_text pieces (text_over texts (ms carrier source flags resolver pieces texts size)))
     elision_steps v w =
-        signed_step (record { step = carrier_step all_stay steps (elision flags source v) (elision after source w); trails = record_trails carrier true steps (elision after source w) }) (full_text pieces (text_of texts (ms carrier source flags resolver pieces texts size)))
+        signed_step (record { step = carrier_step all_stay steps (elision flags source v) (elision after source w); trails = record_trails carrier true steps (elision after source w) }) (full_text pieces (text_over texts (ms carrier source flags resolver pieces texts size)))
         (subst (λ z. IsSigned (record { step = carrier_step all_stay steps (elision flags source v) (elision after source w); trails = record_trails carrier true steps (elision after source w) }) z) new_signs (signed_by carrier source flags resolver pieces texts size steps after v w))
 
     -- Where its source stayed, what arrived does nothing.
-    pub elision_stays : steps source ≡ None → full_text pieces (text_of texts (ms carrier source flags resolver pieces texts size)) ≡ old_units 0 (text_of texts (ms carrier source flags resolver pieces texts size))
+    pub elision_stays : steps source ≡ None → full_text pieces (text_over texts (ms carrier source flags resolver pieces texts size)) ≡ old_units 0 (text_over texts (ms carrier source flags resolver pieces texts size))
     elision_stays none =
         sym (raised_full carrier source flags resolver pieces texts size cuts)
         ∙ ap (λ z. map (raised carrier source flags) (filter (λ f. shows_sign carrier flags (sign_of f)) z)) (subst (λ o. StepsBy o pieces_own (texts source)) none by_own)
         ∙ raised_old carrier source flags texts size
 
     -- Its new text, read off the new text of its source, is the old one with what the pieces put in and take away.
-    pub elision_text : (news : ℕ → List ℕ) → news source ≡ map unit_of F → text_of news (map (tracked source) (runs (is_shown after) (length after))) ≡ map unit_of (full_text pieces (text_of texts (ms carrier source flags resolver pieces texts size)))
+    pub elision_text : (news : ℕ → List ℕ) → news source ≡ map unit_of F → text_over news (map (tracked source) (runs (is_shown after) (length after))) ≡ map unit_of (full_text pieces (text_over texts (ms carrier source flags resolver pieces texts size)))
     elision_text news new =
         let long : length (news source) ≡ length after = ap (λ z. length z) new ∙ length-map F unit_of ∙ sym (many (steps source) by_own) in
         shown_units news source after long

@@ -10,9 +10,10 @@ use Rattle.ed_base.specs.Spans.{end_of}
 use Rattle.ed_sending.proofs.Lists.SortedParts.{Each, filter_none}
 use Rattle.ed_sending.proofs.Texts.FullText.{Full, full_text, held_by}
 use Rattle.ed_sending.proofs.Texts.GapOrder.{Stands}
-use Rattle.ed_sending.proofs.Members.SourceParts.{IsFor, AreApart}
+use Rattle.ed_sending.proofs.Members.SourceParts.{IsFor}
 use Rattle.ed_sending.proofs.Lists.Subsequences.{Cut}
 use Rattle.ed_sending.proofs.Members.SourceCuts.{order_cut}
+use Rattle.ed_sending.specs.Ready.{AreApart}
 
 -- two cuts with the same behind
 pub cut_both : {X : Type 0} (P P' Q : X → Type 0) (xs : List X) → Cut P Q xs → Cut P' Q xs → Cut (λ x. P x × P' x) Q xs

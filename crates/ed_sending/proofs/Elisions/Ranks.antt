@@ -21,7 +21,7 @@ use Rattle.ed_layers.specs.SourceStep.{SourceStep, ends_with, trail_above, witho
 use Rattle.ed_stock.specs.Landing.{pieces_at}
 use Rattle.ed_sending.proofs.Lists.SortedParts.{Each, each_more}
 use Rattle.ed_sending.proofs.Texts.FullText.{Full, old_units, put_in, full_text, held_by}
-use Rattle.ed_sending.proofs.Members.SourceParts.{IsFor, AreApart, own_of, own_each, Own, put_each, woven_each, old_each}
+use Rattle.ed_sending.proofs.Members.SourceParts.{IsFor, own_of, own_each, Own, put_each, woven_each, old_each}
 use Rattle.ed_sending.proofs.Members.MemberZone.{zone_of, zone_lies, zone_filter, put_in_each}
 use Rattle.ed_sending.proofs.Carriers.CarrierText.{starts_of, AllCutsRise}
 use Rattle.ed_sending.proofs.Members.OwnPieces.{lifted}
@@ -29,13 +29,15 @@ use Rattle.ed_sending.proofs.Carriers.MemberParts.{zone_lifted}
 use Rattle.ed_sending.proofs.Carriers.SentPieces.{all_for}
 use Rattle.ed_sending.proofs.Carriers.SlotReadings.{LiesIn, map_twice}
 use Rattle.ed_sending.proofs.Carriers.SlotPlaces.{slot_of}
-use Rattle.ed_sending.proofs.Carriers.NewText.{HaveStepped, SparesLiterals, text_of, shown_after, all_shown_after, tracked_shows, carrier_steps}
-use Rattle.ed_sending.proofs.Shared.SourceSigns.{Sign, sign_of, ends_at, ends_any}
+use Rattle.ed_sending.proofs.Carriers.NewText.{HaveStepped, SparesLiterals, shown_after, all_shown_after, tracked_shows, carrier_steps}
+use Rattle.ed_sending.proofs.Shared.SourceSigns.{sign_of, ends_at, ends_any}
 use Rattle.ed_sending.proofs.Shared.ProjectionSigns.{made}
 use Rattle.ed_sending.proofs.Elisions.InLine.{all_held}
 use Rattle.ed_risen.proofs.Runs.{runs_places, runs_in_line}
 use Rattle.ed_sending.proofs.Elisions.ShownMembers.{rank_from}
 use Rattle.ed_sending.proofs.Elisions.ShownUnits.{ranked, shows_sign, elision_fits, shown_in_line}
+use Rattle.ed_sending.specs.Ready.{AreApart}
+use Rattle.ed_layers.specs.Texts.{text_over}
 
 -- a unit of the source as the buffer has it: by its rank among those that were shown, and with the trail above
 abbrev pub raised : ℕ → ℕ → List Bool → Full → Full
@@ -68,7 +70,7 @@ module _ (carrier source : ℕ) (flags : List Bool) (resolver : Option CutRules)
   ms = map (tracked source) (runs (is_shown flags) (length flags))
 
   abbrev pub parts : List Component
-  parts = arrived pieces (length (text_of texts ms))
+  parts = arrived pieces (length (text_over texts ms))
 
   abbrev pub own : List Piece
   own = pieces_at (sent carrier ms resolver parts) source
@@ -128,11 +130,11 @@ module _ (carrier source : ℕ) (flags : List Bool) (resolver : Option CutRules)
       ∙ ap (λ z. shown_after carrier ms resolver parts texts alone k (Member.Tracked source x SpanMode.EdgeExclusive) ++ z) (all_ranked (k + 1) xs (λ d. same (suc d) ∙ ap (slice_get spans) (let e : k + suc d ≡ (k + 1) + d = omega arith in e)))
 
   -- What the buffer shows of the text that its own pieces make of its source is its old text with what arrived.
-  pub raised_full : AllCutsRise ms resolver parts → map (raised carrier source flags) (filter (λ f. shows_sign carrier flags (sign_of f)) (full_text own (texts source))) ≡ full_text pieces (text_of texts ms)
+  pub raised_full : AllCutsRise ms resolver parts → map (raised carrier source flags) (filter (λ f. shows_sign carrier flags (sign_of f)) (full_text own (texts source))) ≡ full_text pieces (text_over texts ms)
   raised_full cuts =
       ap (map (raised carrier source flags)) (shown_in_line carrier source flags resolver parts texts size)
       ∙ all_ranked 0 spans (λ d. ap (slice_get spans) (let e : d ≡ 0 + d = omega arith in e))
       ∙ carrier_steps carrier ms resolver pieces texts alone have (elision_fits carrier source flags resolver parts texts size) spares cuts
 
-  pub ranked_full : AllCutsRise ms resolver parts → map (λ f. ranked carrier source flags (sign_of f)) (filter (λ f. shows_sign carrier flags (sign_of f)) (full_text own (texts source))) ≡ map sign_of (full_text pieces (text_of texts ms))
+  pub ranked_full : AllCutsRise ms resolver parts → map (λ f. ranked carrier source flags (sign_of f)) (filter (λ f. shows_sign carrier flags (sign_of f)) (full_text own (texts source))) ≡ map sign_of (full_text pieces (text_over texts ms))
   ranked_full cuts = sym (map_twice sign_of (raised carrier source flags) (filter (λ f. shows_sign carrier flags (sign_of f)) (full_text own (texts source)))) ∙ ap (map sign_of) (raised_full cuts)

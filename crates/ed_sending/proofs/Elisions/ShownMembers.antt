@@ -18,9 +18,9 @@ use Rattle.ed_layers.specs.CarrierStep.{is_same_slot}
 use Rattle.ed_layers.specs.Records.{tracked}
 use Rattle.ed_sending.proofs.Lists.SortedParts.{Each}
 use Rattle.ed_sending.proofs.Texts.GapOrder.{Stands, stands_so}
-use Rattle.ed_sending.proofs.Members.SourceParts.{AreApart}
 use Rattle.ed_sending.proofs.Carriers.SlotPlaces.{slot_of, where_in, from_append, own_slots}
 use Rattle.ed_risen.proofs.Runs.{AreInLine, places_of}
+use Rattle.ed_sending.specs.Ready.{AreApart}
 
 -- ---- spans as members
 

@@ -25,11 +25,11 @@ use Rattle.ed_sending.proofs.Members.SourceParts.{IsFor, ends_last, put_each, wo
 use Rattle.ed_sending.proofs.Members.MemberZone.{put_in_each}
 use Rattle.ed_sending.proofs.Carriers.SentPieces.{all_for}
 use Rattle.ed_sending.proofs.Carriers.SlotPlaces.{slot_of}
-use Rattle.ed_sending.proofs.Carriers.NewText.{AreFitting}
 use Rattle.ed_sending.proofs.Shared.SourceSigns.{Sign, sign_of, ends_at, ends_any}
 use Rattle.ed_sending.proofs.Elisions.InLine.{some_holds, all_held, held_in_line, AreFrom, filter_each_alike}
 use Rattle.ed_risen.proofs.Runs.{AreInLine, places_of, runs_places, runs_in_line, runs_end}
 use Rattle.ed_sending.proofs.Elisions.ShownMembers.{spans_line, spans_apart, get_tracked, each_at}
+use Rattle.ed_sending.specs.Ready.{AreFitting}
 
 -- ---- whether a place is in one of the spans
 
