@@ -22,7 +22,7 @@ use Rattle.ed_risen.proofs.NextRecords.{length_flags_after}
 use Rattle.ed_risen.proofs.Runs.{places_of, runs_end, runs_places}
 use Rattle.ed_sending.proofs.Carriers.ProjectionStep.{old_tells, step_tells, unit_of}
 use Rattle.ed_layers.specs.SourceStep.{SourceStep, trail_at, ends_with, names, kept_from}
-use Rattle.ed_sending.proofs.Lists.SortedParts.{Each, each_more}
+use Rattle.ed_sending.proofs.Lists.SortedParts.{Each, each_got, each_more}
 use Rattle.ed_sending.proofs.Texts.FullText.{Full, old_units, put_in, full_text, get_map, IsStepTo, kept_from_is, trail_at_is}
 use Rattle.ed_sending.proofs.Members.SourceParts.{IsFor, ends_last, length_old, put_each, woven_each, old_each}
 use Rattle.ed_sending.proofs.Members.MemberZone.{put_in_each}
@@ -32,7 +32,6 @@ use Rattle.ed_sending.proofs.Carriers.SlotReadings.{Tells, map_twice, trail_told
 use Rattle.ed_sending.proofs.Carriers.SlotPlaces.{slot_of}
 use Rattle.ed_sending.proofs.Carriers.NewText.{StepsBy}
 use Rattle.ed_sending.proofs.Shared.SourceSigns.{Sign, sign_of, IsSigned, sign_at, ends_at}
-use Rattle.ed_sending.proofs.Elisions.ShownMembers.{each_at}
 use Rattle.ed_sending.proofs.Elisions.ShownUnits.{shows_sign, ranked}
 use Rattle.ed_sending.proofs.Elisions.Ranks.{ms, parts, own, raised, raised_full, ranked_full}
 use Rattle.ed_sending.proofs.Elisions.ElisionSigns.{filter_get, raised_old, shown_signs, signed_by, slot_sign}
@@ -169,7 +168,7 @@ module _ (carrier source : ℕ) (flags : List Bool) (resolver : Option CutRules)
         ap (λ o. option_map_or not o false) got
         ∙ ap (λ o. not (option_map_or (is_hidden flags) o (among_hidden flags (kept_left s d) (kept_right s d) && not (names carrier (trail_at s d))))) kept
         ∙ ap (λ z. not (option_map_or (is_hidden flags) f.0 (among_hidden flags (kept_left s d) (kept_right s d) && not (names carrier z)))) trail
-        ∙ each_at Decides F d f all_decide is (among_hidden flags (kept_left s d) (kept_right s d))
+        ∙ each_got Decides F d f all_decide is (among_hidden flags (kept_left s d) (kept_right s d))
 
     -- what is so at each place of the new text, for those that are shown
     shown_read : {Y : Type 0} (G : ℕ → Y) (R : Full → Y) → ((d : ℕ) (f : Full) → slice_get F d ≡ Some f → G d ≡ R f) → map G (filter (is_shown after) (places (length after))) ≡ map R (filter (λ f. shows_sign carrier flags (sign_of f)) F)

@@ -20,7 +20,7 @@ use Rattle.ed_layers.specs.Sending.{sent}
 use Rattle.ed_layers.specs.SourceStep.{SourceStep, ends_with, trail_above, without_last}
 use Rattle.ed_stock.specs.Landing.{pieces_at}
 use Rattle.ed_sending.proofs.Lists.SortedParts.{Each, each_more}
-use Rattle.ed_sending.proofs.Texts.FullText.{Full, old_units, put_in, full_text, held_by}
+use Rattle.ed_sending.proofs.Texts.FullText.{Full, old_units, put_in, full_text, held_by, get_map}
 use Rattle.ed_sending.proofs.Members.SourceParts.{IsFor, own_of, own_each, Own, put_each, woven_each, old_each}
 use Rattle.ed_sending.proofs.Members.MemberZone.{zone_of, zone_lies, zone_filter, put_in_each}
 use Rattle.ed_sending.proofs.Carriers.CarrierText.{starts_of, AllCutsRise}
@@ -47,11 +47,6 @@ starts_are : (source : ℕ) (xs : List Span) (k : ℕ) → sum_by member_len (ta
 starts_are source xs zero = refl
 starts_are source [] (suc k) = refl
 starts_are source (x ∷ xs) (suc k) = sum_by-cons member_len (tracked source x) (take k (map (tracked source) xs)) ∙ ap (λ n. x.len + n) (starts_are source xs k) ∙ sym (sum_by-cons (λ (z : Span). z.len) x (take k xs))
-
-tracked_there : (source : ℕ) (ys : List Span) (k : ℕ) (x : Span) → slice_get ys k ≡ Some x → slice_get (map (tracked source) ys) k ≡ Some (Member.Tracked source x SpanMode.EdgeExclusive)
-tracked_there source [] k x at = absurd (let e : None ≡ Some x = at in cc)
-tracked_there source (y ∷ ys) zero x at = let e : y ≡ x = cc in ap (λ z. Some (Member.Tracked source z SpanMode.EdgeExclusive)) e
-tracked_there source (y ∷ ys) (suc k) x at = tracked_there source ys k x at
 
 -- in a zone the carrier's way is the member's
 zone_ends : (carrier : ℕ) (members : List Member) (source i : ℕ) (x : Span) (mode : SpanMode) (here : slice_get members i ≡ Some (Member.Tracked source x mode)) (apart : AreApart members source) (pieces : List Piece) → Each (IsFor carrier members source) pieces → (ys : List ℕ) → Each (λ f. ends_at carrier f.1.1 ≡ ends_with carrier (nat_eq i) f.1.1) (zone_of carrier members i x pieces ys)
@@ -108,7 +103,7 @@ module _ (carrier source : ℕ) (flags : List Bool) (resolver : Option CutRules)
   all_ranked k [] same = refl
   all_ranked k (x ∷ xs) same =
       let at : slice_get spans k ≡ Some x = ap (slice_get spans) (let e : k ≡ k + 0 = omega arith in e) ∙ sym (same 0) in
-      let here : slice_get ms k ≡ Some (Member.Tracked source x SpanMode.EdgeExclusive) = tracked_there source spans k x at in
+      let here : slice_get ms k ≡ Some (Member.Tracked source x SpanMode.EdgeExclusive) = get_map (tracked source) spans k x at in
       let text : List ℕ = texts source in
       let as_ : List ℕ = take x.start text in
       let ys : List ℕ = slice_range text x.start (end_of x) in

@@ -1,6 +1,6 @@
 -- An elision buffer: its members are the shown runs; what is kept or its own stands there in the order of what arrived.
-use Rattle.std.proofs.Common.{◌≡◌, ℕ, zero, suc, ◌+◌, ◌-◌, ◌<◌, ◌≤◌, Bool, true, false, ◌&&◌, ◌||◌, List, [], ◌∷◌, length, map, take, Option, Some, None, inl, inr, refl, ap, ◌∙◌, arith, subst}
-use Rattle.std.specs.Prelude.{nat_le, slice_get, sum_by}
+use Rattle.std.proofs.Common.{◌≡◌, ℕ, zero, suc, ◌+◌, ◌-◌, ◌<◌, ◌≤◌, true, false, List, [], ◌∷◌, length, map, take, Option, Some, None, inl, inr, refl, ap, ◌∙◌, arith, subst}
+use Rattle.std.specs.Prelude.{slice_get, sum_by}
 use Rattle.std.specs.List.{range_with_len, position_from}
 use Rattle.std.proofs.lemmas.Bool.{cases_lt}
 use Rattle.std.proofs.lemmas.Bool.Decides.{nat_tests}
@@ -13,12 +13,12 @@ use Rattle.ed_base.specs.declared.mode.SpanMode.{SpanMode}
 use Rattle.ed_base.specs.declared.piece.Member.{Member}
 use Rattle.ed_base.specs.Numbers.{or_else}
 use Rattle.ed_base.specs.Spans.{end_of, holds_place}
-use Rattle.ed_layers.specs.Order.{stands_before, in_order}
 use Rattle.ed_layers.specs.CarrierStep.{is_same_slot}
 use Rattle.ed_layers.specs.Records.{tracked}
-use Rattle.ed_sending.proofs.Lists.SortedParts.{Each}
-use Rattle.ed_sending.proofs.Texts.GapOrder.{Stands, stands_so}
+use Rattle.ed_sending.proofs.Lists.SortedParts.{each_got}
+use Rattle.ed_sending.proofs.Texts.GapOrder.{Stands}
 use Rattle.ed_sending.proofs.Carriers.SlotPlaces.{slot_of, where_in, from_append, own_slots}
+use Rattle.ed_risen.proofs.ShownRuns.{behind_in_order}
 use Rattle.ed_risen.proofs.Runs.{AreInLine, places_of}
 use Rattle.ed_sending.specs.Ready.{AreApart}
 
@@ -31,15 +31,10 @@ get_tracked source zero (y ∷ ys) b x mode is =
     (let f : y ≡ x = cc in ap Some f, (let f : b ≡ source = cc in f), (let f : mode ≡ SpanMode.EdgeExclusive = cc in f))
 get_tracked source (suc k) (y ∷ ys) b x mode is = get_tracked source k ys b x mode is
 
-pub each_at : {X : Type 0} (P : X → Type 0) (xs : List X) (k : ℕ) (x : X) → Each P xs → slice_get xs k ≡ Some x → P x
-each_at P [] k x a is = absurd (let e : None ≡ Some x = is in cc)
-each_at P (y ∷ ys) zero x a is = subst P (let e : y ≡ x = cc in e) a.0
-each_at P (y ∷ ys) (suc k) x a is = each_at P ys k x a.1 is
-
 apart_at : (xs : List Span) → AreInLine xs → (h i : ℕ) (w x : Span) → h < i → slice_get xs h ≡ Some w → slice_get xs i ≡ Some x → end_of w ≤ x.start
 apart_at [] a h i w x less at bt = absurd (let e : None ≡ Some w = at in cc)
 apart_at (y ∷ ys) a h zero w x less at bt = absurd (omega arith)
-apart_at (y ∷ ys) a zero (suc i) w x less at bt = (let e : y ≡ w = cc in subst (λ (z : Span). end_of z ≤ x.start) e (each_at (λ (z : Span). end_of y ≤ z.start) ys i x a.0 bt))
+apart_at (y ∷ ys) a zero (suc i) w x less at bt = (let e : y ≡ w = cc in subst (λ (z : Span). end_of z ≤ x.start) e (each_got (λ (z : Span). end_of y ≤ z.start) ys i x a.0 bt))
 apart_at (y ∷ ys) a (suc h) (suc i) w x less at bt = apart_at ys a.1 h i w x (omega arith) at bt
 
 -- in line
@@ -48,28 +43,14 @@ spans_line xs a source b h i w x mode mode' less at bt =
     let l : end_of w ≤ x.start = apart_at xs a h i w x less (get_tracked source h xs b w mode at).0 (get_tracked source i xs b x mode' bt).0 in
     (record { starts = omega arith; lens = λ e. (omega arith); indices = λ e f. less }, l)
 
-in_order_so : (i j : ℕ) (x y : Span) → Stands i x j y → end_of x ≤ y.start → (in_order (i, x) (j, y) ≡ true) × (in_order (j, y) (i, x) ≡ true)
-in_order_so i j x y s l =
-    let a : stands_before (i, x) (j, y) ≡ true = stands_so i j x y s in
-    let b : nat_le (end_of x) y.start ≡ true = grind (arith, nat_tests) in
-    (by (stands_before (i, x) (j, y)) (nat_le (end_of x) y.start) (stands_before (j, y) (i, x) && nat_le (end_of y) x.start) a b, turned (stands_before (i, x) (j, y)) (nat_le (end_of x) y.start) (stands_before (j, y) (i, x) && nat_le (end_of y) x.start) a b)
-  where
-    by : (p q r : Bool) → p ≡ true → q ≡ true → (p && q || r) ≡ true
-    by true true r e f = refl
-    by true false r e f = absurd (let z : false ≡ true = f in cc)
-    by false q r e f = absurd (let z : false ≡ true = e in cc)
-
-    turned : (p q r : Bool) → p ≡ true → q ≡ true → (r || p && q) ≡ true
-    turned true true true e f = refl
-    turned true true false e f = refl
-    turned true false r e f = absurd (let z : false ≡ true = f in cc)
-    turned false q r e f = absurd (let z : false ≡ true = e in cc)
-
 pub spans_apart : (xs : List Span) → AreInLine xs → (source b : ℕ) → AreApart (map (tracked source) xs) b
-spans_apart xs a source b i j x y mode mode' other at bt = elim (cases_lt i j) [
-  | inl less ↦ (let l : Stands i x j y × (end_of x ≤ y.start) = spans_line xs a source b i j x y mode mode' less at bt in (in_order_so i j x y l.0 l.1).0)
-  | inr more ↦ (let l : Stands j y i x × (end_of y ≤ x.start) = spans_line xs a source b j i y x mode' mode (omega (arith, other)) bt at in (in_order_so j i y x l.0 l.1).1)
-]
+spans_apart xs a source b i j x y mode mode' other at bt =
+    let x_there : slice_get xs i ≡ Some x = (get_tracked source i xs b x mode at).0 in
+    let y_there : slice_get xs j ≡ Some y = (get_tracked source j xs b y mode' bt).0 in
+    elim (cases_lt i j) [
+      | inl less ↦ (behind_in_order i j x y less (apart_at xs a i j x y less x_there y_there)).0
+      | inr more ↦ (let less : j < i = omega (arith, other) in (behind_in_order j i y x less (apart_at xs a j i y x less y_there x_there)).1)
+    ]
 
 -- ---- ranks
 
@@ -85,7 +66,7 @@ rank_from a source k (y ∷ ys) apart zero x o is held =
     ∙ ap (λ z. or_else z (position_from (is_same_slot (slot_of 0 a o)) (k + length (map (slot_of 0 (Some source)) (range_with_len y.start y.len))) (map (slot_of 0 (Some source)) (places_of ys)))) (own_slots 0 a (Some source) k y.start y.len o ∙ found)
     ∙ ap (λ n. Some (k + (o - n))) (ap (λ (z : Span). z.start) same) ∙ ap Some (let e : k + (o - x.start) ≡ k + 0 + (o - x.start) = omega arith in e)
 rank_from a source k (y ∷ ys) apart (suc i) x o is held =
-    let l : end_of y ≤ x.start = each_at (λ (z : Span). end_of y ≤ z.start) ys i x apart.0 is in
+    let l : end_of y ≤ x.start = each_got (λ (z : Span). end_of y ≤ z.start) ys i x apart.0 is in
     let out : holds_place y o ≡ false = grind (arith, nat_tests) in
     let none : where_in y k o ≡ None = rw out refl in
     let size : length (map (slot_of 0 (Some source)) (range_with_len y.start y.len)) ≡ y.len = length-map (range_with_len y.start y.len) (slot_of 0 (Some source)) ∙ length-range_with_len y.start y.len in

@@ -19,8 +19,8 @@ use Rattle.ed_layers.specs.Records.{tracked, is_shown}
 use Rattle.ed_layers.specs.Sending.{sent}
 use Rattle.ed_layers.specs.SourceStep.{ends_with, trail_above}
 use Rattle.ed_stock.specs.Landing.{pieces_at}
-use Rattle.ed_sending.proofs.Lists.SortedParts.{Each, each_more}
-use Rattle.ed_sending.proofs.Texts.FullText.{old_units, put_in, full_text}
+use Rattle.ed_sending.proofs.Lists.SortedParts.{Each, each_got, each_more}
+use Rattle.ed_sending.proofs.Texts.FullText.{old_units, put_in, full_text, get_map}
 use Rattle.ed_sending.proofs.Members.SourceParts.{IsFor, ends_last, put_each, woven_each, old_each}
 use Rattle.ed_sending.proofs.Members.MemberZone.{put_in_each}
 use Rattle.ed_sending.proofs.Carriers.SentPieces.{all_for}
@@ -28,7 +28,7 @@ use Rattle.ed_sending.proofs.Carriers.SlotPlaces.{slot_of}
 use Rattle.ed_sending.proofs.Shared.SourceSigns.{Sign, sign_of, ends_at, ends_any}
 use Rattle.ed_sending.proofs.Elisions.InLine.{some_holds, all_held, held_in_line, AreFrom, filter_each_alike}
 use Rattle.ed_risen.proofs.Runs.{AreInLine, places_of, runs_places, runs_in_line, runs_end}
-use Rattle.ed_sending.proofs.Elisions.ShownMembers.{spans_line, spans_apart, get_tracked, each_at}
+use Rattle.ed_sending.proofs.Elisions.ShownMembers.{spans_line, spans_apart, get_tracked}
 use Rattle.ed_sending.specs.Ready.{AreFitting}
 
 -- ---- whether a place is in one of the spans
@@ -111,7 +111,7 @@ module _ (carrier source : ℕ) (flags : List Bool) (resolver : Option CutRules)
   elision_fits = record {
     apart = λ b. spans_apart spans spans_are_apart source b;
     inside = λ k b x mode at. (let g : (slice_get spans k ≡ Some x) × (b ≡ source) × (mode ≡ SpanMode.EdgeExclusive) = get_tracked source k spans b x mode at in
-        let e : end_of x ≤ length flags = each_at (λ (z : Span). end_of z ≤ length flags) spans k x (runs_end (is_shown flags) (length flags)) g.0 in
+        let e : end_of x ≤ length flags = each_got (λ (z : Span). end_of z ≤ length flags) spans k x (runs_end (is_shown flags) (length flags)) g.0 in
         subst (λ n. end_of x ≤ n) (sym (ap (λ z. length (texts z)) g.1 ∙ size)) e);
     covers = λ k b x mode at inclusive. absurd (let g : (slice_get spans k ≡ Some x) × (b ≡ source) × (mode ≡ SpanMode.EdgeExclusive) = get_tracked source k spans b x mode at in let e : false ≡ true = sym (ap is_inclusive g.2) ∙ inclusive in cc);
     alone = λ k j b x y mode mode' at inclusive bt. absurd (let g : (slice_get spans k ≡ Some x) × (b ≡ source) × (mode ≡ SpanMode.EdgeExclusive) = get_tracked source k spans b x mode at in let e : false ≡ true = sym (ap is_inclusive g.2) ∙ inclusive in cc);
@@ -169,12 +169,7 @@ module _ (carrier source : ℕ) (flags : List Bool) (resolver : Option CutRules)
 
   are_from : (k : ℕ) (xs : List Span) → ((d : ℕ) → slice_get xs d ≡ slice_get spans (k + d)) → AreFrom carrier shown_members source (spans_apart spans spans_are_apart source source) own (all_for carrier shown_members resolver source cs) (texts source) (λ k x mode at. elision_fits.inside k source x mode at) (λ h i w x mode mode' less at bt. spans_line spans spans_are_apart source source h i w x mode mode' less at bt) k xs
   are_from k [] same = tt
-  are_from k (x ∷ xs) same = ((SpanMode.EdgeExclusive, there spans k x (ap (slice_get spans) (let e : k ≡ k + 0 = omega arith in e) ∙ sym (same 0))), are_from (k + 1) xs (λ d. same (suc d) ∙ ap (slice_get spans) (let e : k + suc d ≡ (k + 1) + d = omega arith in e)))
-    where
-      there : (ys : List Span) (k : ℕ) (x : Span) → slice_get ys k ≡ Some x → slice_get (map (tracked source) ys) k ≡ Some (Member.Tracked source x SpanMode.EdgeExclusive)
-      there [] k x at = absurd (let e : None ≡ Some x = at in cc)
-      there (y ∷ ys) zero x at = let e : y ≡ x = cc in ap (λ z. Some (Member.Tracked source z SpanMode.EdgeExclusive)) e
-      there (y ∷ ys) (suc k) x at = there ys k x at
+  are_from k (x ∷ xs) same = ((SpanMode.EdgeExclusive, get_map (tracked source) spans k x (ap (slice_get spans) (let e : k ≡ k + 0 = omega arith in e) ∙ sym (same 0))), are_from (k + 1) xs (λ d. same (suc d) ∙ ap (slice_get spans) (let e : k + suc d ≡ (k + 1) + d = omega arith in e)))
 
   -- What is shown of the source's new text is what the members hold of it, one after another.
   pub shown_in_line : filter (λ f. shows_sign carrier flags (sign_of f)) (full_text own (texts source)) ≡ all_held carrier 0 spans (full_text own (texts source))

@@ -1,5 +1,5 @@
 -- A settled stock whose graph has levels is ready for an edit.
-use Rattle.std.proofs.Common.{◌≡◌, ℕ, zero, suc, ◌-◌, ◌<◌, ◌≤◌, Bool, true, false, not, ◌&&◌, List, [], ◌∷◌, length, map, Some, None, inl, inr, refl, sym, ap, ◌∙◌, arith, subst}
+use Rattle.std.proofs.Common.{◌≡◌, ℕ, ◌-◌, ◌<◌, ◌≤◌, Bool, true, false, not, ◌&&◌, List, [], ◌∷◌, length, map, Some, None, inl, inr, refl, sym, ap, ◌∙◌, arith, subst}
 use Rattle.std.specs.Prelude.{All, nat_eq, slice_get, unwrap_or}
 use Rattle.std.proofs.lemmas.Bool.{cases_eq, cases_lt, eqb-true}
 use Rattle.std.proofs.lemmas.List.Elements.{All-get_or, recursion_from_All}
@@ -21,16 +21,11 @@ use Rattle.ed_sending.proofs.Groups.ReadyStocks.{deep_of}
 use Rattle.ed_sending.proofs.Groups.GivenCarrier.{in_order_of}
 use Rattle.ed_sending.proofs.Groups.RecordTexts.{unit_in}
 use Rattle.ed_sending.proofs.Groups.Turns.{records_in}
-use Rattle.ed_sending.proofs.Lists.SortedParts.{Each}
+use Rattle.ed_sending.proofs.Lists.SortedParts.{Each, each_got}
 use Rattle.ed_stock.specs.Stock.{Stock, buffer, count, now, record_at, record_now, sources_now, text_now}
 use Rattle.ed_sending.specs.Ready.{AreFitting, IsReady, NamesLower, height_now}
 
 -- ---- lists
-
-each_got : {X : Type 0} (P : X → Type 0) (xs : List X) (k : ℕ) (x : X) → Each P xs → slice_get xs k ≡ Some x → P x
-each_got P [] k x a is = absurd (let e : None ≡ Some x = is in cc)
-each_got P (y ∷ ys) zero x a is = let e : y ≡ x = cc in subst P e a.0
-each_got P (y ∷ ys) (suc k) x a is = each_got P ys k x a.1 is
 
 each_two : (P Q : ℕ → Type 0) (xs : List ℕ) → Each P xs → Each Q xs → Each (λ x. P x × Q x) xs
 each_two P Q [] a b = tt
