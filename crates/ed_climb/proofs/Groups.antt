@@ -35,15 +35,15 @@ use Rattle.ed_climb.specs.declared.fault.PlanFault.{PlanFault}
 use Rattle.ed_held.specs.declared.held.Held.{Held}
 use Rattle.ed_held.specs.declared.moves.Move.{Move}
 use Rattle.ed_risen.proofs.FoundedLemmas.{each_weaker}
-use Rattle.ed_risen.proofs.Limits.{few_buffers, not_elision, plain_inside, units_fit}
+use Rattle.ed_risen.proofs.Limits.{few_buffers, units_fit}
 use Rattle.ed_risen.proofs.MemberCounts.{as_many}
-use Rattle.ed_risen.proofs.RisingLemmas.{same_record_now}
 use Rattle.ed_risen.proofs.Starts.{all_there, count_left, few_left, linked_left, order_left, order_there, risen_is}
 use Rattle.ed_risen.proofs.Turning.{same_now, same_records, turned_limits}
 use Rattle.ed_climb.proofs.AddedUp.{all_counts}
 use Rattle.ed_climb.proofs.Committed.{stock_folded}
 use Rattle.ed_climb.proofs.Leaving.{kept_then}
 use Rattle.ed_climb.proofs.Moved.{told_made}
+use Rattle.ed_climb.proofs.PlainRecords.{plain_held, plain_moved}
 use Rattle.ed_climb.proofs.Refused.{too_long_refused}
 use Rattle.ed_climb.proofs.Routes.{all_come, is_route}
 use Rattle.ed_climb.proofs.TurnedKept.{may_turn, turned_kept}
@@ -126,15 +126,11 @@ module _ (hs : List Held) (graph : List (List ℕ)) (counts : Counts) (kept : Is
     all_done : (d : ℕ) → d < count s → is_among d done ≡ true
     all_done d in_ = climbs.covers d (all_come w g begins.is_start.len begins.others begins.is_start.levelled refl true_here kept.settled begins.theirs d in_)
 
-    plain_first : (d : ℕ) → d < count s → is_elision (record_now first.stock d) ≡ false
-    plain_first d in_ = by (is_among d initial) refl
-      where
-        by : (q : Bool) → is_among d initial ≡ q → is_elision (record_now first.stock d) ≡ false
-        by true i = plain_inside first.stock (record_now first.stock d) (begins.climbs.rises.risen d i).inside
-        by false o = ap is_elision (same_record_now s first.stock d (begins.climbs.rises.unmoved d (begins.climbs.rises.later d o))) ∙ not_elision s kept.settled d in_
+    plain_first : (d : ℕ) → is_elision (record_now first.stock d) ≡ false
+    plain_first d = plain_moved ms₁ s begins.climbs.known_buffers (plain_held hs) d
 
     members_then : (d : ℕ) → d < count s → member_count t d ≡ member_count first.stock d
-    members_then d in_ = ap (λ (u : Rising). member_count u.stock d) (sym climbs.folded) ∙ as_many (order_in g) first d (order_there s g first begins.is_start) (plain_first d in_)
+    members_then d in_ = ap (λ (u : Rising). member_count u.stock d) (sym climbs.folded) ∙ as_many (order_in g) first d (order_there s g first begins.is_start) (plain_first d)
 
     ordered : graph_order t ≡ order_in g
     ordered = ap (λ (u : Rising). graph_order u.stock) (sym climbs.folded) ∙ order_left s g first begins.is_start

@@ -13,5 +13,6 @@ pub mod Refused
 pub mod AddedUp
 pub mod Leaving
 pub mod Within
+pub mod PlainRecords
 pub mod TurnedKept
 pub mod Groups

@@ -8,7 +8,7 @@ use Rattle.ed_base.specs.declared.Which.{Which}
 use Rattle.ed_base.specs.Numbers.{is_among}
 use Rattle.ed_graph.specs.Standing.{IsLevelled, order_in, sources_in as graph_sources}
 use Rattle.ed_layers.specs.CarrierStep.{stay_around}
-use Rattle.ed_layers.specs.Records.{is_elision, members_of, projection}
+use Rattle.ed_layers.specs.Records.{members_of, projection}
 use Rattle.ed_project.specs.Records.{Next}
 use Rattle.ed_stock.specs.Limits.{over, some_over}
 use Rattle.ed_stock.specs.Making.{projection_of, sources_in, spans_replaced, spans_set}
@@ -30,7 +30,7 @@ use Rattle.ed_risen.proofs.Lengths.{ArePlain}
 use Rattle.ed_risen.proofs.PlainTurns.{plain_record}
 use Rattle.ed_climb.proofs.TurnedKept.{may_turn}
 use Rattle.ed_risen.proofs.Starts.{first_order}
-use Rattle.ed_risen.proofs.Limits.{few_members, not_elision}
+use Rattle.ed_risen.proofs.Limits.{few_members}
 use Rattle.ed_climb.specs.Climbing.{move_to}
 use Rattle.ed_held.specs.Making.{IsProjection}
 use Rattle.ed_risen.specs.Growing.{Grows}
@@ -90,13 +90,6 @@ module _ (hs : List Held) (graph : List (List ℕ)) (counts : Counts) (kept : Is
 
   members_beside : (c : ℕ) → c ≢ b → member_count begins.stock c ≡ member_count s c
   members_beside c ne = ap (λ (u : Rising). member_count u.stock c) begins_is ∙ ap (λ x. length (members_of x)) (grown_record_other s (with_move s (move_to b n [])) b (projection n.members n.sources) grows c ne)
-
-  plain_begun : is_elision (record_now begins.stock b) ≡ false
-  plain_begun = ap (λ (u : Rising). is_elision (record_now u.stock b)) begins_is ∙ ap is_elision (grown_record_now s (with_move s (move_to b n [])) b (projection n.members n.sources) grows)
-
-  plain_beside : (c : ℕ) → c ≢ b → c < count s → is_elision (record_now begins.stock c) ≡ false
-  plain_beside c ne in_ =
-      ap (λ (u : Rising). is_elision (record_now u.stock c)) begins_is ∙ ap is_elision (grown_record_other s (with_move s (move_to b n [])) b (projection n.members n.sources) grows c ne) ∙ not_elision s kept.settled c in_
 
   -- ---- it begins a group
 
