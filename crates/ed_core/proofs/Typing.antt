@@ -17,8 +17,6 @@ use Rattle.ed_stock.specs.Landing.{denial, down_fault, pieces_of_changes, pieces
 use Rattle.ed_stock.specs.Stock as stock
 use Rattle.ed_stock.specs.Stock.{Stock}
 use Rattle.ed_sending.specs.OneCarrierEach.{HasOneCarrierEach}
-use Rattle.ed_sending.proofs.Groups.AcceptedEdit.{IsReady}
-use Rattle.ed_sending.proofs.Groups.OneWay.{NamesLower}
 use Rattle.ed_sending.proofs.Groups.TypedEdit.{stock_after, typed_replaces}
 use Rattle.ed_sending.proofs.Texts.NormalForm.{form_applied}
 use Rattle.ed_script.specs.declared.kinds.Command.{Command}
@@ -31,6 +29,7 @@ use Rattle.ed_machine.specs.Limits.{limit_fault}
 use Rattle.ed_machine.specs.Step.{or_refused, step, told, weighed, within_limits}
 use Rattle.ed_core.specs.Typed.{TypedText}
 use Rattle.ed_core.proofs.Nothing.{nothing_sent, nothing_woven, some_landed}
+use Rattle.ed_sending.specs.Ready.{IsReady, NamesLower}
 
 -- ---- what isn't refused
 

@@ -30,7 +30,7 @@ use Rattle.ed_risen.proofs.Lengths.{ArePlain}
 use Rattle.ed_risen.proofs.PlainTurns.{plain_record}
 use Rattle.ed_climb.proofs.TurnedKept.{may_turn}
 use Rattle.ed_risen.proofs.Starts.{first_order}
-use Rattle.ed_risen.proofs.Limits.{few_members, not_elision}
+use Rattle.ed_risen.proofs.Limits.{few_members}
 use Rattle.ed_climb.specs.Climbing.{move_to}
 use Rattle.ed_held.specs.Making.{CanTurn}
 use Rattle.ed_risen.specs.Growing.{Grows}

@@ -26,7 +26,7 @@ use Rattle.ed_risen.proofs.Lists.{each_behind}
 use Rattle.ed_risen.proofs.Starts.{all_there, first_order}
 use Rattle.ed_sending.proofs.Groups.Advances.{advances_along}
 use Rattle.ed_sending.proofs.Groups.SettledStocks.{ready_of}
-use Rattle.ed_sending.proofs.Groups.LandedBases.{AreLanded, is_reached, landed_all, landed_below, landed_members, landed_start, long_refused, quiet, reached_below, text_landed, text_still}
+use Rattle.ed_sending.proofs.Groups.LandedBases.{AreLanded, landed_all, landed_members, landed_start, long_refused, quiet, text_landed, text_still}
 use Rattle.ed_held.specs.declared.held.Held.{Held}
 use Rattle.ed_held.specs.declared.moves.Move.{Move}
 use Rattle.ed_held.specs.Moves.{rising_of}
@@ -37,6 +37,7 @@ use Rattle.ed_climb.specs.Route.{AllKeepTheirs, Climbs, KeepTheirs}
 use Rattle.ed_climb.specs.declared.fault.PlanFault.{PlanFault}
 use Rattle.ed_landing.specs.Landings.{AllLanded, HaveArrived, HaveLanded, IsFirstLong, SoFar, StandOn, landing_fault, len_left}
 use Rattle.ed_landing.proofs.LandMore.{none_yet}
+use Rattle.ed_sending.specs.LandedBelow.{is_reached, landed_below, reached_below}
 
 module _ (hooks : HookTable) (hs : List Held) (graph : List (List ℕ)) (on : StandOn hs graph) (pending : List (ℕ × Piece)) (hs' : List Held) (ms : List Move) where
   abbrev s : Stock

@@ -27,7 +27,7 @@ use Rattle.ed_risen.proofs.Lists.{each_push, fold_push, get_map}
 use Rattle.ed_risen.proofs.Texts.{base_text}
 use Rattle.ed_risen.proofs.RisingLemmas.{get_last, some_records}
 use Rattle.ed_graph.specs.Standing.{height_in}
-use Rattle.ed_sending.proofs.Groups.LandedBases.{AreLanded, is_reached, landed_below, landed_next, landed_not, next_landed, none_landed, not_landed, now_still, text_still}
+use Rattle.ed_sending.proofs.Groups.LandedBases.{AreLanded, landed_next, landed_not, next_landed, none_landed, not_landed, now_still, text_still}
 use Rattle.ed_sending.proofs.Texts.PiecesAgain.{marked_length, step_again}
 use Rattle.ed_held.specs.declared.held.Held.{Held}
 use Rattle.ed_held.specs.declared.moves.Move.{Move}
@@ -40,6 +40,7 @@ use Rattle.ed_climb.proofs.Climb.{apart_push, rising_to, snapshot_by, stepped_by
 use Rattle.ed_climb.proofs.Snapshots.{held_buffer, newest_same}
 use Rattle.ed_landing.specs.Bases.{move_by}
 use Rattle.ed_landing.specs.Landings.{HaveLanded, StandOn, len_left}
+use Rattle.ed_sending.specs.LandedBelow.{is_reached, landed_below}
 
 -- ---- a base that is held
 

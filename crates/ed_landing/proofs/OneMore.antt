@@ -21,7 +21,7 @@ use Rattle.ed_stock.specs.Limits.{stock_limits}
 use Rattle.ed_stock.specs.Stock.{Stock, Buffer, buffer, count, now, record_now, text_now}
 use Rattle.ed_stock.specs.Versions.{none_given}
 use Rattle.ed_risen.specs.Rising.{IsSettled}
-use Rattle.ed_sending.proofs.Groups.LandedBases.{is_reached, reached_below, reached_next, reached_not}
+use Rattle.ed_sending.proofs.Groups.LandedBases.{reached_next, reached_not}
 use Rattle.ed_sending.proofs.Texts.PiecesAgain.{marked_length, pieces_normal, step_again}
 use Rattle.ed_held.specs.declared.held.Held.{Held}
 use Rattle.ed_held.specs.declared.moves.Move.{Move}
@@ -34,6 +34,7 @@ use Rattle.ed_held.specs.Landing.{IsNextBy}
 use Rattle.ed_landing.specs.Bases.{HasLandedOn, IsLanded, is_met}
 use Rattle.ed_landing.specs.Landings.{Going, HaveArrived, HaveLanded, IsFirstLong, SoFar, StandOn, landing_fault, len_left}
 use Rattle.ed_landing.proofs.LandMore.{lands_too, passed_by, text_held, versions_held}
+use Rattle.ed_sending.specs.LandedBelow.{is_reached, reached_below}
 
 -- ---- lists
 

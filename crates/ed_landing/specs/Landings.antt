@@ -22,7 +22,7 @@ use Rattle.ed_held.specs.Seen.{known, stock}
 use Rattle.ed_climb.specs.Refusals.{Refuses}
 use Rattle.ed_climb.specs.Route.{AreTrue, IsNewest}
 use Rattle.ed_climb.specs.declared.fault.PlanFault.{PlanFault}
-use Rattle.ed_sending.proofs.Groups.LandedBases.{is_reached, landed_below, reached_below}
+use Rattle.ed_sending.specs.LandedBelow.{is_reached, landed_below, reached_below}
 
 -- what stands beside the buffers: their texts are true, and the graph is theirs
 pub record StandOn (hs : List Held) (graph : List (List ℕ)) : Type 0 where

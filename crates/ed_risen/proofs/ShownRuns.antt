@@ -1,5 +1,5 @@
 -- The members of an elision buffer are the runs of what it shows: they stand together in its source.
-use Rattle.std.proofs.Common.{◌≡◌, ℕ, ◌+◌, ◌<◌, ◌≤◌, Bool, true, List, [], ◌∷◌, length, map, None, Some, refl, ap, ◌∙◌, arith, subst}
+use Rattle.std.proofs.Common.{◌≡◌, ℕ, ◌+◌, ◌<◌, ◌≤◌, Bool, true, false, ◌&&◌, ◌||◌, List, [], ◌∷◌, length, map, None, Some, refl, ap, ◌∙◌, arith, subst}
 use Rattle.std.specs.Prelude.{filter, find, nat_le, option_map}
 use Rattle.std.specs.List.{AllByRecursion as Each, enumerate_from, range_with_len}
 use Rattle.std.proofs.lemmas.Bool.{eq-eqb}
@@ -21,15 +21,19 @@ use Rattle.ed_risen.proofs.Runs.{AreInLine, places_of, runs_end, runs_in_line, r
 
 -- ---- spans in line as members
 
-behind_in_order : (i j : ℕ) (x y : Span) → i < j → end_of x ≤ y.start → in_order (i, x) (j, y) ≡ true
+pub behind_in_order : (i j : ℕ) (x y : Span) → i < j → end_of x ≤ y.start → (in_order (i, x) (j, y) ≡ true) × (in_order (j, y) (i, x) ≡ true)
 behind_in_order i j x y less behind =
     let first : stands_before (i, x) (j, y) ≡ true = grind (arith, nat_tests) in
     let ends : nat_le (end_of x) y.start ≡ true = grind (arith, nat_tests) in
-    rw (first, ends) refl
+    (rw (first, ends) refl, rw (first, ends) (or_true (stands_before (j, y) (i, x) && nat_le (end_of y) x.start)))
+  where
+    or_true : (b : Bool) → (b || true) ≡ true
+    or_true true = refl
+    or_true false = refl
 
 none_behind : (source i j : ℕ) (x : Span) (ys : List Span) → i < j → Each (λ y. end_of x ≤ y.start) ys → find (conflict (i, tracked source x)) (enumerate_from j (map (tracked source) ys)) ≡ None
 none_behind source i j x [] less behind = refl
-none_behind source i j x (y ∷ ys) less behind = rw (eq-eqb source source refl, behind_in_order i j x y less behind.0) (none_behind source i (j + 1) x ys (omega arith) behind.1)
+none_behind source i j x (y ∷ ys) less behind = rw (eq-eqb source source refl, (behind_in_order i j x y less behind.0).0) (none_behind source i (j + 1) x ys (omega arith) behind.1)
 
 no_conflict : (source i : ℕ) (xs : List Span) → AreInLine xs → first_conflict (enumerate_from i (map (tracked source) xs)) ≡ None
 no_conflict source i [] line = refl

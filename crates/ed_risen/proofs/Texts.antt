@@ -55,14 +55,14 @@ module _ (source_cells : ℕ → List Cell) (b : ℕ) where
       ∙ ap (λ xs. xs ++ units_of (flat_map (member_cells source_cells b) (enumerate_from (i + 1) ms))) (units_member i m)
       ∙ ap (λ xs. member_text source_units m ++ xs) (units_members (i + 1) ms)
 
-  units_carrier : (r : Record) → is_carrier r ≡ true → units_of (record_cells source_cells b r) ≡ text_over source_units (members_of r)
+  pub units_carrier : (r : Record) → is_carrier r ≡ true → units_of (record_cells source_cells b r) ≡ text_over source_units (members_of r)
   units_carrier (base us reiterated) carries = absurd (cc)
   units_carrier (projection ms sources) carries = units_placed b 0 (flat_map (member_cells source_cells b) (enumerate_from 0 ms)) ∙ units_members 0 ms
   units_carrier (elision flags source version) carries =
       let ms : List Member = members_of (elision flags source version) in
       units_placed b 0 (flat_map (member_cells source_cells b) (enumerate_from 0 ms)) ∙ units_members 0 ms
 
-  units_base : (us : List ℕ) (r : ℕ) → units_of (record_cells source_cells b (base us r)) ≡ us
+  pub units_base : (us : List ℕ) (r : ℕ) → units_of (record_cells source_cells b (base us r)) ≡ us
   units_base us r = units_placed b 0 (map plain_cell us) ∙ units_plain us
 
 module _ (at : ℕ → ℕ → Option Record) where
