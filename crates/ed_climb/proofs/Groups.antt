@@ -36,13 +36,13 @@ use Rattle.ed_held.specs.declared.held.Held.{Held}
 use Rattle.ed_held.specs.declared.moves.Move.{Move}
 use Rattle.ed_risen.proofs.FoundedLemmas.{each_weaker}
 use Rattle.ed_risen.proofs.Limits.{few_buffers, units_fit}
-use Rattle.ed_risen.proofs.MemberCounts.{as_many}
 use Rattle.ed_risen.proofs.Starts.{all_there, count_left, few_left, linked_left, order_left, order_there, risen_is}
 use Rattle.ed_risen.proofs.Turning.{same_now, same_records, turned_limits}
 use Rattle.ed_climb.proofs.AddedUp.{all_counts}
 use Rattle.ed_climb.proofs.Committed.{stock_folded}
 use Rattle.ed_climb.proofs.Leaving.{kept_then}
 use Rattle.ed_climb.proofs.Moved.{told_made}
+use Rattle.ed_climb.proofs.MemberCounts.{as_many}
 use Rattle.ed_climb.proofs.PlainRecords.{plain_held, plain_moved}
 use Rattle.ed_climb.proofs.Refused.{too_long_refused}
 use Rattle.ed_climb.proofs.Routes.{all_come, is_route}

@@ -14,5 +14,6 @@ pub mod AddedUp
 pub mod Leaving
 pub mod Within
 pub mod PlainRecords
+pub mod MemberCounts
 pub mod TurnedKept
 pub mod Groups

@@ -48,10 +48,10 @@ plain_move s m there plain b = elim (cases_eq b m.buffer) [
     grows = version_grows s m.buffer (planned_record m.planned) (changes_of m.planned) there
 
 pub plain_moved : (ms : List Move) (s : Stock) → Each (λ m. m.buffer < count s) ms → ((b : ℕ) → is_elision (record_now s b) ≡ false) → (b : ℕ) → is_elision (record_now (fold with_move s ms) b) ≡ false
+unfolding with_version
 plain_moved [] s there plain b = plain b
 plain_moved (m ∷ ms) s there plain b = plain_moved ms (with_move s m) (as_many ms there.1) (plain_move s m there.0 plain) b
   where
     as_many : (ns : List Move) → Each (λ n. n.buffer < count s) ns → Each (λ n. n.buffer < count (with_move s m)) ns
-    unfolding with_version
     as_many [] h = tt
     as_many (n ∷ ns) h = (subst (λ k. n.buffer < k) (sym (length-set s.buffers m.buffer _)) h.0, as_many ns h.1)

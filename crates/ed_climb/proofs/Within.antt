@@ -12,7 +12,6 @@ use Rattle.ed_climb.specs.declared.counts.Counts.{Counts}
 use Rattle.ed_climb.specs.Limited.{limit_of, passed}
 use Rattle.ed_risen.specs.Rising.{Inside, IsSettled}
 use Rattle.ed_held.specs.Seen.{Known, stock_of}
-use Rattle.ed_risen.proofs.MemberCounts.{as_many}
 use Rattle.ed_risen.proofs.OneLimit.{all_within, each_none, none_of, none_past}
 use Rattle.ed_risen.proofs.Order.{in_order, of_order}
 use Rattle.ed_risen.specs.Counting.{member_count}

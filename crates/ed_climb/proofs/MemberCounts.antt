@@ -1,4 +1,4 @@
--- As many members as before, once versions have risen.
+-- As many members as before, once versions have risen over buffers that hide nothing.
 use Rattle.std.proofs.Common.{◌≡◌, ℕ, suc, ◌+◌, ◌<◌, false, List, [], ◌∷◌, length, fold, refl, sym, ap, ◌∙◌, subst, inl, inr}
 use Rattle.std.specs.Prelude.{None, Option}
 use Rattle.std.specs.List.{AllByRecursion as Each, enumerate_from}
@@ -58,15 +58,3 @@ as_many (x ∷ xs) r c all plain =
     weaker : (ys : List ℕ) → Each (λ b. b < count r.stock) ys → Each (λ b. b < count (risen_at none_given r x).stock) ys
     weaker [] h = tt
     weaker (y ∷ ys) h = (subst (λ k. y < k) (sym (names_at r x all.0).same_count) h.0, weaker ys h.1)
-
--- the number of buffers that there may be stays
-most_at : (r : Rising) (b : ℕ) → (risen_at none_given r b).stock.most_buffers ≡ r.stock.most_buffers
-unfolding with_record with_version
-most_at r b = elim (cases_Bool (is_moved r b)) [
-  | inl moved ↦ rw moved refl
-  | inr still ↦ rw still refl
-]
-
-pub most_all : (xs : List ℕ) (r : Rising) → (fold (risen_at none_given) r xs).stock.most_buffers ≡ r.stock.most_buffers
-most_all [] r = refl
-most_all (x ∷ xs) r = most_all xs (risen_at none_given r x) ∙ most_at r x
