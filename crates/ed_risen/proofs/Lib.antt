@@ -9,7 +9,6 @@ pub mod RisingLemmas
 pub mod Settled
 pub mod Order
 pub mod Turns
-pub mod MemberCounts
 pub mod OneLimit
 pub mod Sources
 pub mod Tracked

@@ -1,8 +1,10 @@
 -- What an elision buffer shows of its source's new text is its old text with what arrived.
-use Rattle.std.proofs.Common.{◌≡◌, ℕ, zero, suc, ◌+◌, ◌<◌, ◌≤◌, Bool, true, false, ◌&&◌, ◌||◌, List, [], ◌∷◌, ◌++◌, length, map, filter, Option, Some, None, inl, inr, refl, sym, ap, ◌∙◌, arith, subst, if◌then◌else◌}
+use Rattle.std.proofs.Common.{◌≡◌, ℕ, zero, suc, ◌+◌, ◌<◌, ◌≤◌, Bool, true, false, ◌&&◌, ◌||◌, List, [], ◌∷◌, length, map, filter, Option, Some, None, inl, inr, refl, sym, ap, ◌∙◌, arith, subst}
 use Rattle.std.specs.Prelude.{nat_eq, nat_le, nat_lt, slice_get, position, option_and_then}
 use Rattle.std.specs.List.{range_with_len, list_any}
-use Rattle.std.proofs.lemmas.Bool.{cases_eq}
+use Rattle.std.proofs.lemmas.Bool.{cases_eq, eqb-true}
+use Rattle.std.proofs.lemmas.List.Folds.{list_any-append}
+use Rattle.std.proofs.lemmas.Map.Views.{any-filter_same}
 use Rattle.std.proofs.lemmas.Bool.Decides.{nat_tests}
 use Rattle.ed_base.specs.declared.edit.Span.{Span}
 use Rattle.ed_base.specs.declared.mode.SpanMode.{SpanMode}
@@ -33,14 +35,6 @@ use Rattle.ed_sending.specs.Ready.{AreFitting}
 
 -- ---- whether a place is in one of the spans
 
-among_append : (o : ℕ) (xs ys : List ℕ) → list_any (λ x. nat_eq o x) (xs ++ ys) ≡ (list_any (λ x. nat_eq o x) xs || list_any (λ x. nat_eq o x) ys)
-among_append o [] ys = refl
-among_append o (x ∷ xs) ys = either (nat_eq o x) (among_append o xs ys)
-  where
-    either : (b : Bool) → list_any (λ x. nat_eq o x) (xs ++ ys) ≡ (list_any (λ x. nat_eq o x) xs || list_any (λ x. nat_eq o x) ys) → (b || list_any (λ x. nat_eq o x) (xs ++ ys)) ≡ ((b || list_any (λ x. nat_eq o x) xs) || list_any (λ x. nat_eq o x) ys)
-    either true rest = refl
-    either false rest = rest
-
 among_range : (o a m : ℕ) → list_any (λ x. nat_eq o x) (range_with_len a m) ≡ (nat_le a o && nat_lt o (a + m))
 among_range o a zero = let e : (nat_le a o && nat_lt o (a + 0)) ≡ false = grind (arith, nat_tests) in sym e
 among_range o a (suc m) = elim (cases_eq o a) [
@@ -53,38 +47,10 @@ among_range o a (suc m) = elim (cases_eq o a) [
 
 among_spans : (o : ℕ) (xs : List Span) → list_any (λ x. nat_eq o x) (places_of xs) ≡ list_any (λ x. holds_place x o) xs
 among_spans o [] = refl
-among_spans o (x ∷ xs) = among_append o (range_with_len x.start x.len) (places_of xs) ∙ ap (λ b. b || list_any (λ x. nat_eq o x) (places_of xs)) (among_range o x.start x.len) ∙ ap (λ b. holds_place x o || b) (among_spans o xs)
+among_spans o (x ∷ xs) = list_any-append (λ x. nat_eq o x) (range_with_len x.start x.len) (places_of xs) ∙ ap (λ b. b || list_any (λ x. nat_eq o x) (places_of xs)) (among_range o x.start x.len) ∙ ap (λ b. holds_place x o || b) (among_spans o xs)
 
 pub among_filter : (test : ℕ → Bool) (o : ℕ) (xs : List ℕ) → list_any (λ x. nat_eq o x) (filter test xs) ≡ (test o && list_any (λ x. nat_eq o x) xs)
-among_filter test o [] = either (test o)
-  where
-    either : (b : Bool) → false ≡ (b && false)
-    either true = refl
-    either false = refl
-among_filter test o (x ∷ xs) = elim (cases_eq o x) [
-  | inl same ↦ by_same (test o) refl same (among_filter test o xs)
-  | inr other ↦ (let e : nat_eq o x ≡ false = grind (arith, nat_tests) in
-      let g : (test o && (nat_eq o x || list_any (λ x. nat_eq o x) xs)) ≡ (test o && list_any (λ x. nat_eq o x) xs) = rw e refl in
-      skip (test x) e (among_filter test o xs) ∙ sym g)
-]
-  where
-    by_same : (b : Bool) → test o ≡ b → o ≡ x → list_any (λ x. nat_eq o x) (filter test xs) ≡ (test o && list_any (λ x. nat_eq o x) xs) → list_any (λ x. nat_eq o x) (if test x then x ∷ filter test xs else filter test xs) ≡ (test o && (nat_eq o x || list_any (λ x. nat_eq o x) xs))
-    by_same true t same rest =
-        let tx : test x ≡ true = ap test (sym same) ∙ t in
-        let e : nat_eq o x ≡ true = grind (arith, nat_tests) in
-        let l : list_any (λ x. nat_eq o x) (if test x then x ∷ filter test xs else filter test xs) ≡ true = rw (tx, e) refl in
-        let r : (test o && (nat_eq o x || list_any (λ x. nat_eq o x) xs)) ≡ true = rw (t, e) refl in
-        l ∙ sym r
-    by_same false t same rest =
-        let tx : test x ≡ false = ap test (sym same) ∙ t in
-        let l : list_any (λ x. nat_eq o x) (if test x then x ∷ filter test xs else filter test xs) ≡ list_any (λ x. nat_eq o x) (filter test xs) = rw tx refl in
-        let m : (test o && list_any (λ x. nat_eq o x) xs) ≡ false = rw t refl in
-        let r : (test o && (nat_eq o x || list_any (λ x. nat_eq o x) xs)) ≡ false = rw t refl in
-        l ∙ rest ∙ m ∙ sym r
-
-    skip : (b : Bool) → nat_eq o x ≡ false → list_any (λ x. nat_eq o x) (filter test xs) ≡ (test o && list_any (λ x. nat_eq o x) xs) → list_any (λ x. nat_eq o x) (if b then x ∷ filter test xs else filter test xs) ≡ (test o && list_any (λ x. nat_eq o x) xs)
-    skip true e rest = (rw e rest)
-    skip false e rest = rest
+among_filter test o xs = any-filter_same (λ x. nat_eq o x) test (test o) (λ x e. ap test (sym (eqb-true o x e))) xs
 
 -- ---- the buffer
 
