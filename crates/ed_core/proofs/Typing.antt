@@ -129,9 +129,9 @@ module _ (hooks : HookTable) (s : State) (name : List ℕ) (replaces : List Repl
 
 -- ---- the clause
 
-pub step-told : (hooks : HookTable) (s : State) (event : Event) (command : Command) → event ≡ Event.Told command → step hooks s event ≡ told hooks s command
+pub step-told : (hooks : HookTable) (s : State) (seat : ℕ) (event : Event) (command : Command) → event ≡ Event.Told command → step hooks s seat event ≡ told hooks s command
 unfolding step
-step-told hooks s event command is = ap (step hooks s) is
+step-told hooks s seat event command is = ap (step hooks s seat) is
 
 pub typed_as : (hooks : HookTable) (s u : State) (event : Event) (o : Outcome) (r : Reply) → ((command : Command) → event ≡ Event.Told command → o ≡ told hooks s command)
     → IsReady s.stock → NamesLower s.stock → length s.names ≡ count s → IsReady u.stock → u ≡ o.state → r ≡ o.reply → TypedText s u event r
