@@ -1,6 +1,6 @@
 -- What a stock between groups gives to edits, and what they lead to.
-use Rattle.std.proofs.Common.{◌≡◌, ℕ, ◌+◌, ◌<◌, ◌≤◌, ◌^◌, Bool, true, false, List, [], ◌∷◌, ◌++◌, length, map, Option, Some, None, Ok, Err, refl, sym, ap, ◌∙◌, subst, arith}
-use Rattle.std.specs.Prelude.{All, flat_map, slice_index_or, sum_by}
+use Rattle.std.proofs.Common.{◌≡◌, ℕ, ◌+◌, ◌<◌, ◌≤◌, ◌^◌, false, List, [], ◌∷◌, ◌++◌, length, map, Option, Some, None, Ok, Err, refl, sym, ap, ◌∙◌, subst, arith}
+use Rattle.std.specs.Prelude.{slice_index_or}
 use Rattle.std.specs.List.{AllByRecursion as Each}
 use Rattle.std.proofs.lemmas.Bool.{ltb-false}
 use Rattle.std.proofs.lemmas.List.{length-map}
@@ -40,7 +40,7 @@ use Rattle.ed_climb.specs.declared.counts.Counts.{Counts}
 use Rattle.ed_climb.proofs.Groups.{leads}
 use Rattle.ed_climb.proofs.Routes.{graph_len, order_same, sources_same}
 use Rattle.ed_landing.specs.EditedStock.{edits_fault, edits_landed, edits_sent}
-use Rattle.ed_landing.specs.Landings.{AllLanded, HaveArrived, HaveLanded, StandOn, landing_fault}
+use Rattle.ed_landing.specs.Landings.{AllLanded, HaveArrived, StandOn, landing_fault}
 use Rattle.ed_landing.proofs.Ended.{begins, lands_all, theirs_kept}
 
 few_each : (s : Stock) → first_some (stock_limits s) ≡ None → (c : ℕ) → c < count s → length (members_of (record_now s c)) ≤ 1024

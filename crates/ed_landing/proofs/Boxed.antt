@@ -1,9 +1,9 @@
 -- What a box asks of the buffer that it is for.
-use Rattle.std.proofs.Common.{◌≡◌, ℕ, ◌<◌, ◌≤◌, ◌^◌, Bool, true, false, not, ◌&&◌, List, [], length, map, Some, refl, sym, ap, ◌∙◌, subst, arith}
+use Rattle.std.proofs.Common.{◌≡◌, ℕ, ◌<◌, ◌≤◌, ◌^◌, Bool, true, false, not, ◌&&◌, List, [], length, map, Some, refl, sym, ap, ◌∙◌, subst}
 use Rattle.std.specs.Prelude.{nat_eq, slice_get, slice_index_or}
 use Rattle.std.proofs.lemmas.List.{length-map}
 use Rattle.ed_base.specs.declared.Piece.{Piece}
-use Rattle.ed_buffer.specs.Planning.{AreInside, Base, put_in}
+use Rattle.ed_buffer.specs.Planning.{AreInside, put_in}
 use Rattle.ed_layers.specs.Records.{is_carrier}
 use Rattle.ed_version.specs.Chain as chain
 use Rattle.ed_stock.specs.Landing.{pieces_at}

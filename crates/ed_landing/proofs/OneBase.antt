@@ -35,16 +35,18 @@ module _ (hooks : HookTable) (hs : List Held) (ms : List Move) (b : ℕ) (ps : L
   landed_ok st ms' h is = (
     h.before,
     h.old_is,
-    no_fault (fault_of hooks h.before (changes_left ps (text_now h.before.chain.versions))) st h.lands.fault,
-    record {
-      base = h.after;
-      next = st;
-      set = ap (slice_set hs b) h.new_is;
-      moves = is;
-      same = h.lands.same;
-      planned = h.lands.planned;
-      by = h.lands.next;
-    },
+    (
+      no_fault (fault_of hooks h.before (changes_left ps (text_now h.before.chain.versions))) st h.lands.fault,
+      record {
+        base = h.after;
+        next = st;
+        set = ap (slice_set hs b) h.new_is;
+        moves = is;
+        same = h.lands.same;
+        planned = h.lands.planned;
+        by = h.lands.next;
+      },
+    ),
   )
 
   pub landed_err : (e : BaseFault) (ms' : List Move) → HasLanded hooks old new ps (Err e) → ms' ≡ ms → HasLandedAmong hooks hs (slice_set hs b new) ms ms' b old ps (Err e)

@@ -1,22 +1,22 @@
 -- What is so once one more buffer has been looked at: it is passed by, a version lands on it, its text would be too long, or a region denies it.
-use Rattle.std.proofs.Common.{◌≡◌, ◌≢◌, ℕ, zero, suc, ◌+◌, ◌-◌, ◌<◌, ◌≤◌, ◌^◌, Bool, true, false, not, ◌&&◌, List, [], ◌∷◌, ◌++◌, length, map, Option, Some, None, Ok, Err, refl, sym, ap, ◌∙◌, subst, inl, inr, arith, append_assoc, length-append}
+use Rattle.std.proofs.Common.{◌≡◌, ℕ, zero, suc, ◌+◌, ◌-◌, ◌<◌, ◌^◌, Bool, true, false, not, ◌&&◌, List, [], ◌∷◌, ◌++◌, length, map, Option, Some, None, Ok, Err, refl, sym, ap, ◌∙◌, subst, inl, inr, arith, append_assoc}
 use Rattle.std.specs.Prelude.{filter, nat_eq, nat_lt, option_map, slice_get, slice_index_or, unwrap_or, if◌then◌else◌}
 use Rattle.std.specs.List.{range_with_len}
-use Rattle.std.proofs.lemmas.Bool.{cases_Bool, cases_lt, ltb-true, lt-ltb}
+use Rattle.std.proofs.lemmas.Bool.{cases_Bool, ltb-true}
 use Rattle.std.proofs.lemmas.List.{length-map}
 use Rattle.ed_base.specs.declared.Piece.{Piece}
 use Rattle.ed_base.specs.declared.refusal.Refusal.{Refusal}
-use Rattle.ed_base.specs.ChangeList.{ChangeList, change_list, new_len, step}
+use Rattle.ed_base.specs.ChangeList.{ChangeList, change_list, new_len}
 use Rattle.ed_base.specs.Denial.{first_denied}
 use Rattle.ed_base.specs.Hooks.{HookTable}
 use Rattle.ed_base.specs.Numbers.{first_some, or_else, places}
 use Rattle.ed_base.proofs.NormalSteps.{normal_new_len}
-use Rattle.ed_buffer.specs.Planning.{Base, changes_left, fault_of, text_left, too_long}
+use Rattle.ed_buffer.specs.Planning.{Base, changes_left, text_left, too_long}
 use Rattle.ed_buffer.specs.declared.BaseFault.{BaseFault}
 use Rattle.ed_layers.specs.Pieces.{marked_text, step_of_pieces}
 use Rattle.ed_layers.specs.Records.{is_carrier}
 use Rattle.ed_version.specs.Chain as chain
-use Rattle.ed_stock.specs.Landing.{base_changes, bases_reached, denial, denied_in, landed, pieces_at}
+use Rattle.ed_stock.specs.Landing.{base_changes, denial, denied_in, landed, pieces_at}
 use Rattle.ed_stock.specs.Limits.{stock_limits}
 use Rattle.ed_stock.specs.Stock.{Stock, Buffer, buffer, count, now, record_now, text_now}
 use Rattle.ed_stock.specs.Versions.{none_given}

@@ -1,9 +1,8 @@
 -- One more buffer, as the code looks at it.
 use Rattle.std.proofs.Common.{◌≡◌, ℕ, ◌+◌, ◌<◌, true, false, List, [], length, map, Option, Some, Ok, Err, Result, refl, sym, ap, ◌∙◌, subst}
-use Rattle.std.specs.Prelude.{slice_get, slice_index_or, unwrap_or}
+use Rattle.std.specs.Prelude.{slice_get, slice_index_or}
 use Rattle.std.proofs.lemmas.List.{length-map}
 use Rattle.ed_base.specs.declared.Piece.{Piece}
-use Rattle.ed_base.specs.declared.Refusal.{Refusal}
 use Rattle.ed_base.specs.Hooks.{HookTable}
 use Rattle.ed_buffer.specs.Planning.{Base}
 use Rattle.ed_buffer.specs.declared.BaseFault.{BaseFault}

@@ -1,9 +1,8 @@
 -- All bases on which pieces land, by number.
-use Rattle.std.specs.Prelude.{◌≡◌, ℕ, ◌+◌, ◌<◌, ◌≤◌, ◌^◌, true, false, List, [], ◌∷◌, length, map, slice_index_or, Result, Ok, Err, Option, MatchOption, Some, None}
+use Rattle.std.specs.Prelude.{◌≡◌, ℕ, ◌<◌, ◌≤◌, ◌^◌, true, false, List, [], ◌∷◌, length, map, slice_index_or, Result, Ok, Err, Option, MatchOption, None}
 use Rattle.std.specs.List.{AllByRecursion as Each}
 use Rattle.ed_base.specs.declared.Piece.{Piece}
 use Rattle.ed_base.specs.declared.refusal.Refusal.{Refusal}
-use Rattle.ed_base.specs.declared.refusal.Which.{Which}
 use Rattle.ed_base.specs.Hooks.{HookTable}
 use Rattle.ed_base.specs.Numbers.{first_some, is_among}
 use Rattle.ed_buffer.specs.Planning.{AreInside, put_in}

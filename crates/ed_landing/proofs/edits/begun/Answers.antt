@@ -1,6 +1,5 @@
-use Rattle.std.proofs.Common.{◌≡◌, ℕ, List, [], None, refl, sym, ap, ◌∙◌, subst, length}
+use Rattle.std.proofs.Common.{refl, sym, ◌∙◌, subst}
 use Rattle.std.proofs.lemmas.List.{length-map}
-use Rattle.ed_base.specs.declared.Piece.{Piece}
 use Rattle.ed_callbacks.specs.HookLists.{hook_table}
 use Rattle.ed_descent.specs.Edits.{pieces_of_edits}
 use Rattle.ed_descent.specs.InBoxes.{boxes_of}
