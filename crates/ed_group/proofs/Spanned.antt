@@ -1,62 +1,37 @@
 -- The start of the way of replaced spans.
-use Rattle.std.proofs.Common.{◌≡◌, ◌≢◌, ℕ, zero, suc, ◌+◌, ◌-◌, ◌<◌, ◌≤◌, ◌^◌, Bool, true, false, ◌⊎◌, inl, inr, List, [], ◌∷◌, ◌++◌, length, map, Option, Some, None, refl, sym, ap, ◌∙◌, subst, arith, length-set}
-use Rattle.std.specs.Prelude.{fold, max, slice_get, slice_set, unwrap_or, nat_eq, nat_lt, is_some, MatchOption, if◌then◌else◌}
-use Rattle.std.specs.Option.{option_map_or}
-use Rattle.std.specs.List.{AllByRecursion as Each, list_any}
-use Rattle.std.proofs.lemmas.Bool.{cases_eq, eqb-true, eq-eqb, ne_eqb, lt-ltb, ltb-true}
-use Rattle.std.proofs.lemmas.List.{length-map}
+use Rattle.std.proofs.Common.{◌≡◌, ◌≢◌, ℕ, ◌<◌, ◌≤◌, ◌^◌, List, [], ◌∷◌, length, map, Option, Some, None, refl, sym, ap, ◌∙◌}
+use Rattle.std.specs.Prelude.{slice_get, slice_set}
+use Rattle.std.specs.List.{AllByRecursion as Each}
 use Rattle.ed_base.specs.declared.Member.{Member}
 use Rattle.ed_base.specs.declared.Refusal.{Refusal}
 use Rattle.ed_base.specs.declared.Which.{Which}
-use Rattle.ed_base.specs.Numbers.{first_some, is_among, places}
-use Rattle.ed_base.specs.Spans.{end_of}
-use Rattle.ed_base.specs.ChangeList.{change_list, new_len, step}
-use Rattle.ed_graph.specs.Standing.{IsLevelled, height_in, sources_in as graph_sources}
-use Rattle.ed_layers.specs.Cells.{text}
-use Rattle.ed_layers.specs.CarrierStep.{carrier_step, record_trails, stay_around}
-use Rattle.ed_layers.specs.Graph as order
+use Rattle.ed_base.specs.Numbers.{first_some}
+use Rattle.ed_graph.specs.Standing.{IsLevelled, sources_in as graph_sources}
+use Rattle.ed_layers.specs.CarrierStep.{stay_around}
 use Rattle.ed_layers.specs.Order.{mode_fault, overlap_fault}
-use Rattle.ed_layers.specs.Records.{Record, projection, members_len, sources_of, version_in}
-use Rattle.ed_layers.specs.SourceStep.{SourceStep}
-use Rattle.ed_pieces.specs.Trails.{trails_in}
-use Rattle.ed_project.specs.Planning as projections
-use Rattle.ed_project.specs.Records.{Projection, Next, IsUnchanged, record_of, shown, shown_now, version_at}
-use Rattle.ed_project.specs.Texts.{no_steps, text_in, text_over}
-use Rattle.ed_project.specs.declared.Shown.{Shown}
+use Rattle.ed_layers.specs.Records.{members_len, projection}
+use Rattle.ed_project.specs.Texts.{no_steps}
 use Rattle.ed_stock.specs.Limits.{over, stock_limits}
 use Rattle.ed_stock.specs.Making.{sources_in, spans_replaced, spans_set}
-use Rattle.ed_stock.specs.Stock.{Stock, Buffer, buffer, count, now, record_at, record_now, sources_now, text_at, text_now, with_buffer}
-use Rattle.ed_stock.specs.Versions.{Rising, at_now, none_given, risen, step_in, with_record, with_version}
+use Rattle.ed_stock.specs.Stock.{Stock, count, now, sources_now, text_now}
+use Rattle.ed_stock.specs.Versions.{Rising, none_given, risen}
 use Rattle.ed_group.specs.Answers.{LiesIn, members_now}
 use Rattle.ed_held.specs.declared.held.Held.{Held}
-use Rattle.ed_held.specs.declared.moves.Move.{Move}
 use Rattle.ed_held.specs.declared.moves.Planned.{Planned}
-use Rattle.ed_risen.specs.Founded.{Founded, Extends}
+use Rattle.ed_held.specs.Following.{Follows}
 use Rattle.ed_risen.specs.Counting.{turned_in}
-use Rattle.ed_risen.specs.Growing.{AreFounded, Grows}
-use Rattle.ed_held.specs.Moves.{CanMake, move_of, move_seen, rising_of, step_of, with_move}
-use Rattle.ed_risen.specs.Rising.{EndsIn, HasStepped, Inside, IsNow, IsRisen, IsSettled, Rises}
-use Rattle.ed_climb.specs.Route.{AreTrue, Climbs, IsNewest}
-use Rattle.ed_held.specs.Seen.{known, seen, stock}
-use Rattle.ed_risen.specs.Start.{IsStart}
+use Rattle.ed_held.specs.Moves.{CanMake}
+use Rattle.ed_risen.specs.Rising.{EndsIn, IsSettled}
+use Rattle.ed_climb.specs.Route.{AreTrue, Climbs}
+use Rattle.ed_held.specs.Seen.{known, stock}
 use Rattle.ed_climb.specs.Begins.{turned_rising}
-use Rattle.ed_risen.proofs.Turning.{turned_limits}
-use Rattle.ed_risen.proofs.Starts.{count_left, only_too_long, risen_is}
-use Rattle.ed_group.specs.Spanning.{below, spans_first, spans_route}
-use Rattle.ed_climb.proofs.Advanced.{map_set, same_known}
-use Rattle.ed_risen.proofs.Lists.{among_itself, among_more, clash, each_both, passes, passing, each_of, get_map}
-use Rattle.ed_climb.proofs.Climb.{rising_to, snapshot_by, stepped_by}
-use Rattle.ed_risen.proofs.FoundedLemmas.{each_version, each_weaker, founded_in, founded_of}
-use Rattle.ed_risen.proofs.Growth.{grown_extends, grown_founded, grown_last, grown_length, grown_now, grown_now_other, grown_record_now, grown_record_other, grown_text_now, same_growth, set_grows, set_here, version_grows}
-use Rattle.ed_risen.proofs.Lengths.{Fits, length_slots, length_text_over, plain_trails}
+use Rattle.ed_group.specs.Spanning.{below, carrier_route, spans_first}
+use Rattle.ed_risen.proofs.Lists.{each_both}
 use Rattle.ed_risen.proofs.Sources.{IsListed, all_listed, named_among}
-use Rattle.ed_risen.proofs.RisingLemmas.{Same, get_last, inside_same, now_is_there}
-use Rattle.ed_climb.proofs.Routes.{greatest_above}
-use Rattle.ed_risen.proofs.Texts.{named_text, projection_text, same_text}
-use Rattle.ed_climb.proofs.Snapshots.{held_buffer, held_record, snap_there, snaps, snaps_text}
+use Rattle.ed_climb.proofs.Snapshots.{snaps}
 use Rattle.ed_climb.proofs.KeptNumbers.{few}
-
--- ---- lists
+use Rattle.ed_climb.specs.Climbing.{move_to}
+use Rattle.ed_group.proofs.FirstCarrier.{carrier_begins, risen_long, same_names}
 
 module _ (hs : List Held) (settled : IsSettled (stock hs)) (g : List (List ℕ)) (len : length g ≡ count (stock hs)) (levelled : IsLevelled g) (b : ℕ) (there : b < count (stock hs))
     (others_are : (c : ℕ) → c ≢ b → graph_sources g c ≡ sources_now (stock hs) c) (members : List Member) (here_are : graph_sources g b ≡ sources_in [] members) (lies : Each (LiesIn (stock hs)) members) where

@@ -1,18 +1,14 @@
 -- The beginning of a group that replaces members of a projection, handed on.
-use Rattle.std.proofs.Common.{◌≡◌, ◌≢◌, ℕ, ◌<◌, ◌≤◌, true, false, List, [], ◌∷◌, length, map, Option, Some, None, refl, sym, ap, ◌∙◌, subst, ltb-false}
+use Rattle.std.proofs.Common.{◌≡◌, ◌≢◌, ℕ, ◌<◌, List, [], ◌∷◌, length, map, Option, Some, None, refl, sym, ap, ◌∙◌, subst}
 use Rattle.std.specs.Prelude.{All, slice_get}
 use Rattle.std.specs.List.{AllByRecursion as Each}
 use Rattle.std.proofs.lemmas.List.{length-map}
 use Rattle.ed_base.specs.declared.Member.{Member}
-use Rattle.ed_base.specs.declared.Which.{Which}
-use Rattle.ed_base.specs.Numbers.{is_among}
 use Rattle.ed_graph.specs.Standing.{IsLevelled, order_in, sources_in as graph_sources}
 use Rattle.ed_layers.specs.CarrierStep.{stay_around}
-use Rattle.ed_layers.specs.Records.{is_elision, members_of, projection}
 use Rattle.ed_held.specs.declared.moves.Planned.{Planned}
-use Rattle.ed_stock.specs.Limits.{over, some_over}
 use Rattle.ed_stock.specs.Making.{projection_of, sources_in, spans_replaced, spans_set}
-use Rattle.ed_stock.specs.Stock.{Stock, count, graph_order, record_now, sources_now}
+use Rattle.ed_stock.specs.Stock.{Stock, count, sources_now}
 use Rattle.ed_stock.specs.Versions.{Rising, step_in}
 use Rattle.ed_group.specs.Answers.{LiesIn, members_now, spans_fault}
 use Rattle.ed_group.specs.Begun.{HasBegunSpans}
@@ -20,7 +16,6 @@ use Rattle.ed_climb.specs.Begins.{Begins, LeadsTo, way}
 use Rattle.ed_climb.specs.declared.beginning.FirstMoves.{FirstMoves}
 use Rattle.ed_members.specs.Steps.{step_seen}
 use Rattle.ed_risen.specs.Start.{IsStart}
-use Rattle.ed_risen.specs.Counting.{member_count}
 use Rattle.ed_held.specs.Moves.{changes_of, move_seen, record_of, rising_of, with_move}
 use Rattle.ed_group.proofs.Begins.{not_only}
 use Rattle.ed_climb.proofs.Groups.{leads}
@@ -29,22 +24,17 @@ use Rattle.ed_climb.proofs.Theirs.{plain_way}
 use Rattle.ed_risen.proofs.Lengths.{ArePlain}
 use Rattle.ed_risen.proofs.PlainTurns.{plain_record}
 use Rattle.ed_climb.proofs.TurnedKept.{may_turn}
-use Rattle.ed_risen.proofs.Starts.{first_order}
-use Rattle.ed_risen.proofs.Limits.{few_members}
 use Rattle.ed_climb.specs.Climbing.{move_to}
 use Rattle.ed_held.specs.Making.{CanTurn}
 use Rattle.ed_risen.specs.Growing.{Grows}
 use Rattle.ed_climb.specs.Kept.{IsKept}
-use Rattle.ed_climb.specs.Limited.{passed}
 use Rattle.ed_climb.specs.Route.{Climbs}
 use Rattle.ed_held.specs.Seen.{Known, known, stock, seen}
 use Rattle.ed_group.specs.Spanning.{below, spans_first}
 use Rattle.ed_climb.specs.declared.counts.Counts.{Counts}
 use Rattle.ed_held.specs.declared.held.Held.{Held}
 use Rattle.ed_held.specs.declared.moves.Move.{Move}
-use Rattle.ed_risen.proofs.Growth.{grown_record_now, grown_record_other, version_grows}
-use Rattle.ed_risen.proofs.Order.{in_order, of_order}
-use Rattle.ed_risen.proofs.OneLimit.{none_of, none_past, only_over}
+use Rattle.ed_risen.proofs.Growth.{version_grows}
 use Rattle.ed_group.proofs.Respanned.{linked_here, linked_len, linked_other, shown_lies}
 use Rattle.ed_group.proofs.Spanned.{names_spans, spans_land}
 

@@ -64,13 +64,7 @@ fn replaced(
     let (graph, next) = begun(alloc, buffers, graph, buffer, first, removed, added)?;
     let mut moves = Vec::new(alloc);
     let mut steps = Vec::new(alloc);
-    add(
-        buffer,
-        next,
-        Trails::empty(),
-        &mut moves,
-        &mut steps,
-    )?;
+    add(buffer, next, Trails::empty(), &mut moves, &mut steps)?;
     Ok(FirstMoves {
         graph,
         moves,

@@ -1,8 +1,8 @@
-use Rattle.std.proofs.Common.{◌≡◌, ◌+◌, ◌<◌, ◌≤◌, ◌^◌, ℕ, All, List, [], length, map, Some, Ok, Err, refl, sym, ap, ◌∙◌, subst, arith, slice_get}
+use Rattle.std.proofs.Common.{◌≡◌, true, false, ◌+◌, ◌<◌, ◌≤◌, ◌^◌, ℕ, All, List, [], length, map, Some, Ok, Err, refl, sym, ap, ◌∙◌, subst, arith, slice_get}
 use Rattle.ed_base.specs.declared.Member.{Member}
 use Rattle.ed_base.specs.declared.Which.{Which}
 use Rattle.ed_graph.specs.Standing.{IsLevelled, linked}
-use Rattle.ed_layers.specs.Records.{members_len}
+use Rattle.ed_layers.specs.Records.{Record, is_carrier, is_elision, members_len}
 use Rattle.ed_members.specs.Faults.{first_fault, len_in}
 use Rattle.ed_project.specs.Texts.{HasSource, no_steps}
 use Rattle.ed_stock.specs.Limits.{stock_limits}
@@ -22,8 +22,22 @@ use Rattle.ed_climb.proofs.KeptNumbers.{held_len, not_passed}
 use Rattle.ed_group.proofs.Begins.{can_respan, handed_on, has_begun, long_refused, members_are, there}
 use Rattle.ed_group.proofs.Projected.{have_all, refuses_memory, snaps_held, sources_within}
 use Rattle.ed_group.proofs.Respanned.{all_lie, limits_left, members_refused, shown_apart, shown_cover, sources_refused}
-use Rattle.ed_climb.proofs.Snapshots.{snaps}
+use Rattle.ed_climb.proofs.Snapshots.{held_record, snaps}
 use Rattle.ed_group.proofs.spanning.begun.Goals as goal
+
+pub members_with-requires-clause-carrier : goal.members_with-requires-clause-carrier
+members_with-requires-clause-carrier c =
+    let kept : IsKept (map known c.args.buffers.now) c.args.graph.now c.requires.kept.0 = c.requires.kept.1 in
+    let in_stock : c.args.buffer < count (stock c.args.buffers.now) = there c.args.buffers.now c.args.graph.now c.requires.kept.0 kept c.args.buffer c.requires.there c.requires.carrier in
+    let held : slice_get c.args.buffers.now c.args.buffer ≡ Some c.index-all-buffer.result = got c.args.buffers.now c.args.buffers.now c.args.buffer c.buffer.inside.0 c.index-all-buffer.result refl c.buffer.view_is in_stock c.index-all-buffer.is in
+    subst (λ (x : Record). is_carrier x ≡ true) (held_record c.args.buffers.now c.args.buffer c.index-all-buffer.result held) c.requires.carrier
+
+pub members_with-requires-clause-plain : goal.members_with-requires-clause-plain
+members_with-requires-clause-plain c =
+    let kept : IsKept (map known c.args.buffers.now) c.args.graph.now c.requires.kept.0 = c.requires.kept.1 in
+    let in_stock : c.args.buffer < count (stock c.args.buffers.now) = there c.args.buffers.now c.args.graph.now c.requires.kept.0 kept c.args.buffer c.requires.there c.requires.carrier in
+    let held : slice_get c.args.buffers.now c.args.buffer ≡ Some c.index-all-buffer.result = got c.args.buffers.now c.args.buffers.now c.args.buffer c.buffer.inside.0 c.index-all-buffer.result refl c.buffer.view_is in_stock c.index-all-buffer.is in
+    subst (λ (x : Record). is_elision x ≡ false) (held_record c.args.buffers.now c.args.buffer c.index-all-buffer.result held) c.requires.plain
 
 pub members_with-requires-clause-part : goal.members_with-requires-clause-part
 members_with-requires-clause-part c =

@@ -1,10 +1,8 @@
-use Rattle.std.proofs.Common.{◌≡◌, ◌++◌, ◌∷◌, [], List, length, refl, ap, ◌∙◌}
-use Rattle.ed_base.specs.declared.Which.{Which}
+use Rattle.std.proofs.Common.{◌≡◌, ◌++◌, ◌∷◌, [], List, refl, ap, ◌∙◌}
 use Rattle.ed_group.specs.Answers.{spans_fault}
 use Rattle.ed_climb.specs.Climbing.{move_to}
 use Rattle.ed_climb.specs.declared.fault.PlanFault.{PlanFault}
 use Rattle.ed_held.specs.declared.moves.Move.{Move}
-use Rattle.ed_climb.specs.Limited.{passed}
 use Rattle.ed_held.specs.Seen.{stock}
 use Rattle.ed_group.proofs.Begins.{handed_on}
 use Rattle.ed_group.proofs.Projected.{refuses_memory}
