@@ -5,6 +5,7 @@ ghost use Rattle.ed_risen.specs.Laws.{CurrentVector, OneVector, RecordsStay};
 ghost use Rattle.ed_machine.specs.State.{empty_state, number_of, count};
 ghost use Rattle.ed_machine.specs.Accepted.{answers};
 ghost use Rattle.ed_machine.specs.Step.{within_limits, weighed};
+ghost use Rattle.ed_sending.specs.Ready.{IsReady, NamesLower};
 ghost use Rattle.ed_core.specs.Within.{IsWithin};
 
 use crate::weights::weight;
@@ -33,7 +34,6 @@ impl Model for Core {
     ghost use Rattle.ed_machine.specs.State.{State};
     ghost use Rattle.ed_group.specs.Seen.{stock as stock_seen};
     ghost use Rattle.ed_core.specs.Within.{IsWithin};
-    ghost use Rattle.ed_sending.specs.Ready.{IsReady, NamesLower};
 
     ghost Value = { State };
 

@@ -1,6 +1,5 @@
 use Rattle.std.proofs.Common.{rules, ◌≡◌, IfOk, OnOk}
 use Rattle.ed_callbacks.specs.HookLists.{hook_table}
-use Rattle.ed_machine.specs.Accepted.{Outcome}
 use Rattle.ed_machine.specs.Step.{step}
 use Rattle.ed_core.proofs.Typing.{typed_all, step-told}
 use Rattle.ed_core.proofs.state.Core.step.Goals as goal
