@@ -1,7 +1,7 @@
 //! A replay from memory to memory.
-ghost use Rattle.std.specs.Prelude.{◌<◌, ◌≤◌, ◌≡◌, ◌^◌, OnOk};
+ghost use Rattle.std.specs.Prelude.{◌<◌, ◌≤◌, ◌≡◌, ◌^◌, IfOk};
 ghost use Rattle.ed_callbacks.specs.HookLists.{hook_table};
-ghost use Rattle.ed_replay.specs.ProgramHooks.{no_hooks, program_hooks, resolvers_alone};
+ghost use Rattle.ed_replay.specs.ProgramHooks.{program_hooks, resolvers_alone};
 
 use ed_base::{Edges, OutOfMemory, VersionNo};
 use ed_callbacks::Hooks;
@@ -18,14 +18,14 @@ pub struct Outcome {
     pub entries: usize,
 }
 
-/// Keeps the program's resolvers where no hooks were.
-fn add_resolvers(alloc: Global, hooks: &mut Hooks) -> Result<(), OutOfMemory>
-    requires none { hook_table hooks.old ≡ no_hooks }
-    ensures { OnOk result (hook_table hooks.new ≡ resolvers_alone) }
+/// The program's resolvers, and no other hooks.
+fn resolvers(alloc: Global) -> Result<Hooks, OutOfMemory>
+    ensures { IfOk result (λ hooks. hook_table hooks ≡ resolvers_alone) }
 {
+    let mut hooks = Hooks::new(alloc);
     keep_resolvers(
         alloc,
-        hooks,
+        &mut hooks,
         Box::new(alloc, |len: u32, _count: u32, _index: u32| len)?,
         Box::new(alloc, |len: u32, _count: u32, _index: u32| len)?,
         Box::new(
@@ -52,17 +52,18 @@ fn add_resolvers(alloc: Global, hooks: &mut Hooks) -> Result<(), OutOfMemory>
                 requires { (len ≤ 2 ^ 22) × (count ≤ 1024) × (index < count) }
             { even_end(len, count, index) },
         )?,
-    )
+    )?;
+    Ok(hooks)
 }
 
-/// Keeps the program's other hooks beside its resolvers.
-fn add_hooks(alloc: Global, hooks: &mut Hooks) -> Result<(), OutOfMemory>
-    requires resolved { hook_table hooks.old ≡ resolvers_alone }
-    ensures { OnOk result (hook_table hooks.new ≡ program_hooks) }
+/// The program's hooks.
+fn all_hooks(alloc: Global) -> Result<Hooks, OutOfMemory>
+    ensures { IfOk result (λ hooks. hook_table hooks ≡ program_hooks) }
 {
+    let mut hooks = resolvers(alloc)?;
     keep_hooks(
         alloc,
-        hooks,
+        &mut hooks,
         Box::new(alloc, |_version: VersionNo, _edit: bool| true)?,
         Box::new(alloc, |_version: VersionNo, edit: bool| edit)?,
         Box::new(alloc, |version: VersionNo, _edit: bool| version.0 % 2 == 0)?,
@@ -74,7 +75,8 @@ fn add_hooks(alloc: Global, hooks: &mut Hooks) -> Result<(), OutOfMemory>
             }
         })?,
         Box::new(alloc, |edges: Edges| (edges.end_pos, edges.end_pos))?,
-    )
+    )?;
+    Ok(hooks)
 }
 
 /// Runs the words on a script that is read and written in pieces, with a read and a write that fail
@@ -96,9 +98,7 @@ pub fn played(
     let bytes = Vec::from_slice(alloc, script.as_bytes())?;
     let mut source = MemorySource::new(bytes, piece, vec![in alloc; failing_read]?);
     let mut sink = MemorySink::new(alloc, 1 << 22, piece, vec![in alloc; failing_write]?)?;
-    let mut hooks = Hooks::new(alloc);
-    add_resolvers(alloc, &mut hooks)?;
-    add_hooks(alloc, &mut hooks)?;
+    let hooks = all_hooks(alloc)?;
     let report = run(alloc, words.as_slice(), &mut source, &mut sink, &hooks);
     Ok(Outcome {
         written: Vec::from_slice(alloc, sink.written())?,
