@@ -1,0 +1,13 @@
+pub mod ListParts
+pub mod SpanPlaces
+pub mod SpanRuns
+pub mod JoinedSpans
+pub mod MemberCells
+pub mod DownImages
+pub mod UpImages
+pub mod MappedSpans
+pub mod UnitPlaces
+pub mod FirstPlaces
+pub mod ReachedVersions
+pub mod ImageBounds
+pub mod Levels

@@ -1,0 +1,31 @@
+-- Lists of spans as sets of places.
+use Rattle.std.specs.Prelude.{ℕ, ◌+◌, ◌<◌, ◌≤◌, Bool, List, [], ◌∷◌, nat_le, max, if◌then◌else◌}
+use Rattle.std.specs.List.{list_any}
+use Rattle.ed_base.specs.declared.edit.Span.{Span}
+use Rattle.ed_base.specs.Spans.{end_of, span_between, holds_place}
+
+-- whether the place lies in one of the spans
+abbrev pub in_spans : List Span → ℕ → Bool
+in_spans spans q = list_any (λ s. holds_place s q) spans
+
+-- ---- one list of them
+
+-- nonempty spans by rising start, from a place on and up to n
+abbrev pub AreRisingFrom : ℕ → ℕ → List Span → Type 0
+AreRisingFrom p n [] = Unit {0}
+AreRisingFrom p n (s ∷ ss) = (p ≤ s.start) × (0 < s.len) × (end_of s ≤ n) × AreRisingFrom s.start n ss
+
+-- nonempty spans, of which none touches the next
+abbrev pub AreApartFrom : ℕ → ℕ → List Span → Type 0
+AreApartFrom p n [] = Unit {0}
+AreApartFrom p n (s ∷ ss) = (p ≤ s.start) × (0 < s.len) × (end_of s ≤ n) × AreApartFrom (end_of s + 1) n ss
+
+-- rising spans behind an open one, joined where they overlap or touch
+abbrev pub join_onto : Span → List Span → List Span
+join_onto s [] = s ∷ []
+join_onto s (t ∷ ts) = if nat_le t.start (end_of s) then join_onto (span_between s.start (max (end_of s) (end_of t))) ts else s ∷ join_onto t ts
+
+abbrev pub joined : List Span → List Span
+joined [] = []
+joined (s ∷ ss) = join_onto s ss
+
