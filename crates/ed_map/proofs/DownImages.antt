@@ -14,9 +14,9 @@ use Rattle.ed_layers.specs.Cells.{Cell, in_place, plain_cell, through_member, me
 use Rattle.ed_layers.specs.Mapping.{has_place}
 use Rattle.ed_map.specs.Layers.{record_len, EachTracked, AreLayers}
 use Rattle.ed_map.specs.Down.{down_member, down_members, down_within}
-use Rattle.ed_map.specs.SpanSets.{in_spans}
-use Rattle.ed_map.proofs.ListParts.{length_range, range_append, range_of_none, range_map, range_range, range_none}
-use Rattle.ed_map.proofs.SpanPlaces.{any_range, any_part}
+use Rattle.ed_spans.specs.SpanSets.{in_spans}
+use Rattle.ed_spans.proofs.SliceLemmas.{length_range, range_append, range_of_none, range_map, range_range, range_none}
+use Rattle.ed_spans.proofs.PlaceLemmas.{any_range, any_part}
 use Rattle.ed_map.proofs.MemberCells.{raw_cells, served, cells_step, has_own, has_other, each_tracked, raw_len, cells_len}
 
 -- A literal's cells have no place below.

@@ -15,8 +15,8 @@ use Rattle.ed_layers.specs.Cells.{Cell, in_place, plain_cell, through_member, me
 use Rattle.ed_layers.specs.Mapping.{has_place, up_point, unit_by, beside, lower_len}
 use Rattle.ed_map.specs.Layers.{record_len, EachTracked, AreLayers}
 use Rattle.ed_map.specs.Up.{first_member, first_members, first_within}
-use Rattle.ed_map.proofs.ListParts.{length_range, range_append, range_map, range_range, range_none, range_of_none}
-use Rattle.ed_map.proofs.SpanPlaces.{drop_places, take_places}
+use Rattle.ed_spans.proofs.SliceLemmas.{length_range, range_append, range_map, range_range, range_none, range_of_none}
+use Rattle.ed_spans.proofs.PlaceLemmas.{drop_places, take_places}
 use Rattle.ed_map.proofs.MemberCells.{raw_cells, served, cells_step, has_own, has_other, each_tracked, raw_len, cells_len}
 
 -- ---- the first element that passes

@@ -1,7 +1,3 @@
-pub mod ListParts
-pub mod SpanPlaces
-pub mod SpanRuns
-pub mod JoinedSpans
 pub mod MemberCells
 pub mod DownImages
 pub mod UpImages
@@ -11,3 +7,7 @@ pub mod FirstPlaces
 pub mod ReachedVersions
 pub mod ImageBounds
 pub mod Levels
+pub mod MemberParts
+pub mod ShownLemmas
+pub mod DownSteps
+pub mod FirstSteps

@@ -8,13 +8,13 @@ use Rattle.ed_layers.specs.Cells.{cells}
 use Rattle.ed_layers.specs.Mapping.{down_span, up_span, lower_len}
 use Rattle.ed_map.specs.Layers.{record_len, AreLayers}
 use Rattle.ed_map.specs.Down.{down_within}
-use Rattle.ed_map.specs.SpanSets.{in_spans, joined, AreRisingFrom}
+use Rattle.ed_spans.specs.SpanSets.{in_spans, joined, AreRisingFrom}
 use Rattle.ed_map.specs.Up.{up_within}
 use Rattle.ed_map.proofs.MemberCells.{cells_len}
 use Rattle.ed_map.proofs.DownImages.{down_holds}
 use Rattle.ed_map.proofs.UpImages.{up_holds}
-use Rattle.ed_map.proofs.SpanRuns.{runs_same, apart_runs}
-use Rattle.ed_map.proofs.JoinedSpans.{joined_apart, joined_holds}
+use Rattle.ed_spans.proofs.RunLemmas.{runs_same, apart_runs}
+use Rattle.ed_spans.proofs.JoinLemmas.{joined_apart, joined_holds}
 
 module _ (record_at : ℕ → ℕ → Option Record) (rank : ℕ → ℕ → ℕ) where
   pub down_span_runs : AreLayers record_at rank → (top v : ℕ) (span : Span) (to : ℕ) (r : Record) → record_at top v ≡ Some r → end_of span ≤ record_len r →

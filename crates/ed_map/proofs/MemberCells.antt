@@ -12,7 +12,7 @@ use Rattle.ed_layers.specs.Records.{Record, base, projection, elision, members_o
 use Rattle.ed_layers.specs.Cells.{Cell, at_place, in_place, plain_cell, through_member, member_cells, record_cells, cells_within}
 use Rattle.ed_layers.specs.Mapping.{has_place}
 use Rattle.ed_map.specs.Layers.{record_len, EachTracked, AreLayers}
-use Rattle.ed_map.proofs.ListParts.{length_range}
+use Rattle.ed_spans.proofs.SliceLemmas.{length_range}
 
 -- the cells before they get their own places
 abbrev pub raw_cells : (ℕ → List Cell) → ℕ → Record → List Cell

@@ -14,7 +14,7 @@ use Rattle.ed_layers.specs.Cells.{Cell, at_place, in_place, plain_cell, through_
 use Rattle.ed_layers.specs.Mapping.{place_in, down_point, unit_by, beside}
 use Rattle.ed_map.specs.Layers.{record_len, EachTracked, AreLayers}
 use Rattle.ed_map.specs.Down.{place_members, place_within}
-use Rattle.ed_map.proofs.ListParts.{length_range, get_append, get_range}
+use Rattle.ed_spans.proofs.SliceLemmas.{length_range, get_append, get_range}
 use Rattle.ed_map.proofs.MemberCells.{raw_cells, served, cells_step, each_tracked, raw_len, cells_len}
 
 -- what a unit is, lies in the text

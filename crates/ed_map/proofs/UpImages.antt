@@ -13,10 +13,10 @@ use Rattle.ed_layers.specs.Records.{Record, base, projection, elision, members_o
 use Rattle.ed_layers.specs.Cells.{Cell, at_place, in_place, plain_cell, through_member, member_cells, cells_within}
 use Rattle.ed_layers.specs.Mapping.{has_place}
 use Rattle.ed_map.specs.Layers.{record_len, EachTracked, AreLayers}
-use Rattle.ed_map.specs.SpanSets.{in_spans}
+use Rattle.ed_spans.specs.SpanSets.{in_spans}
 use Rattle.ed_map.specs.Up.{cut_to, up_members, up_within}
-use Rattle.ed_map.proofs.ListParts.{length_range, get_append, get_range}
-use Rattle.ed_map.proofs.SpanPlaces.{same_bool, holds_parts, holds_from, holds_none}
+use Rattle.ed_spans.proofs.SliceLemmas.{length_range, get_append, get_range}
+use Rattle.ed_spans.proofs.PlaceLemmas.{same_bool, holds_parts, holds_from, holds_none}
 use Rattle.ed_map.proofs.MemberCells.{raw_cells, served, cells_step, each_tracked, raw_len, cells_len}
 
 -- ---- one image cut to a member

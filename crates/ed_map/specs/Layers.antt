@@ -18,6 +18,11 @@ EachTracked P [] = Unit {0}
 EachTracked P (Member.Literal units ∷ ms) = EachTracked P ms
 EachTracked P (Member.Tracked source bounds mode ∷ ms) = P source bounds × EachTracked P ms
 
+-- a tracked member's bounds end below 2^32
+abbrev pub EndsShort : Member → Type 0
+EndsShort (Member.Literal units) = Unit {0}
+EndsShort (Member.Tracked source bounds mode) = end_of bounds < 2 ^ 32
+
 module _ (record_at : ℕ → ℕ → Option Record) (rank : ℕ → ℕ → ℕ) where
   -- a version of the source that is there, of a smaller rank, in whose text the bounds lie
   pub record Stands (top : ℕ) (sources : List (ℕ × ℕ)) (source : ℕ) (bounds : Span) : Type 0 where

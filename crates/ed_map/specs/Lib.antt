@@ -1,6 +1,7 @@
-pub mod SpanSets
 pub mod Layers
 pub mod Placing
+pub mod Shown
 pub mod Down
 pub mod Up
 pub mod Reached
+pub mod Images

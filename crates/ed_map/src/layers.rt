@@ -8,6 +8,7 @@ use ed_members::Members;
 
 /// What a version of a buffer is: a base's text, of which the length in UTF-16 units is told, or the
 /// members of a projection or of an elision buffer, with the version of each source.
+#[derive(Clone, Copy)]
 pub enum Placed<'a> {
     Base {
         len: u32,
