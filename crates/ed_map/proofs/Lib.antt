@@ -11,3 +11,7 @@ pub mod MemberParts
 pub mod ShownLemmas
 pub mod DownSteps
 pub mod FirstSteps
+pub mod LowerSteps
+pub mod PointSteps
+pub mod CutSteps
+pub mod UpSteps

@@ -6,13 +6,15 @@ use Rattle.ed_base.specs.Runs.{runs}
 use Rattle.ed_layers.specs.Records.{Record}
 use Rattle.ed_layers.specs.Cells.{cells}
 use Rattle.ed_layers.specs.Mapping.{down_span, up_span, lower_len}
-use Rattle.ed_map.specs.Layers.{record_len, AreLayers}
+use Rattle.ed_map.specs.Layers.{record_len, AreLayers, OneVersion}
 use Rattle.ed_map.specs.Down.{down_within}
-use Rattle.ed_spans.specs.SpanSets.{in_spans, joined, AreRisingFrom}
+use Rattle.ed_spans.specs.SpanSets.{in_spans, joined, AreRisingFrom, EndsWithin}
 use Rattle.ed_map.specs.Up.{up_within}
 use Rattle.ed_map.proofs.MemberCells.{cells_len}
 use Rattle.ed_map.proofs.DownImages.{down_holds}
 use Rattle.ed_map.proofs.UpImages.{up_holds}
+use Rattle.std.specs.Prelude.{All}
+use Rattle.ed_map.proofs.ReachedVersions.{all_within, down_inside}
 use Rattle.ed_spans.proofs.RunLemmas.{runs_same, apart_runs}
 use Rattle.ed_spans.proofs.JoinLemmas.{joined_apart, joined_holds}
 
@@ -39,3 +41,7 @@ module _ (record_at : ℕ → ℕ → Option Record) (rank : ℕ → ℕ → ℕ
   up_span_is layers top v span of_ r sorted is rising same =
       up_span_runs layers top v span of_ r is
       ∙ apart_runs (in_spans (up_within record_at 9 of_ span top v)) (record_len r) (joined sorted) (joined_apart (record_len r) sorted rising) (λ k below. same k ∙ sym (joined_holds (record_len r) k sorted rising))
+
+  -- where the images of a span end
+  pub down_ends : AreLayers record_at rank → OneVersion record_at → (top v : ℕ) (span : Span) (to : ℕ) (r : Record) → record_at top v ≡ Some r → end_of span ≤ record_len r → All (EndsWithin (lower_len record_at top v to)) (down_within record_at 9 to top v span.start (end_of span))
+  down_ends layers single top v span to r is within = all_within (lower_len record_at top v to) (down_within record_at 9 to top v span.start (end_of span)) (down_inside record_at rank layers single 9 to top v span.start (end_of span) r is (omega (arith, layers.low top v r is)) (omega arith) within)

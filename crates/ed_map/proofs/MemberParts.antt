@@ -2,6 +2,7 @@
 use Rattle.std.proofs.Common.{◌≡◌, ℕ, zero, suc, ◌+◌, ◌-◌, ◌<◌, ◌≤◌, ◌⊎◌, Bool, true, false, List, [], ◌∷◌, ◌++◌, length, take, drop, Some, None, Option, inl, inr, refl, sym, ap, ◌∙◌, arith}
 use Rattle.std.specs.Prelude.{slice_get, nat_lt, min, sum_by, option_map}
 use Rattle.std.specs.Option.{option_map_or}
+use Rattle.std.proofs.lemmas.List.{drop_all}
 use Rattle.std.proofs.lemmas.List.Sums.{sum_by-cons}
 use Rattle.std.proofs.lemmas.Bool.{cases_lt, lt-ltb, le-ltb}
 use Rattle.ed_base.specs.declared.edit.Span.{Span}
@@ -34,7 +35,10 @@ end_here (m ∷ ms) (suc i) below =
 pub end_is : (ms : List Member) (i : ℕ) → i < length ms → end_of (placement ms i) ≡ start_of ms (i + 1)
 end_is ms i below = let e : suc i ≡ i + 1 = omega arith in end_here ms i below ∙ ap (start_of ms) e
 
-pub get_below : (ms : List Member) (i : ℕ) (m : Member) → slice_get ms i ≡ Some m → i < length ms
+pub place_len : (ms : List Member) (i : ℕ) (m : Member) → slice_get ms i ≡ Some m → (placement ms i).len ≡ member_len m
+place_len ms i m is = ap (λ o. option_map_or member_len o 0) is
+
+pub get_below : {X : Type 0} (ms : List X) (i : ℕ) (m : X) → slice_get ms i ≡ Some m → i < length ms
 get_below [] i m is = absurd (cc)
 get_below (x ∷ xs) zero m is = omega arith
 get_below (x ∷ xs) (suc i) m is = let r : i < length xs = get_below xs i m is in omega (arith, r)
@@ -94,14 +98,8 @@ down_nothing inner (m ∷ ms) a z none = rw (down_past inner m a z (inr (omega (
 pub down_end : (inner : ℕ → ℕ → ℕ → List Span) (ms : List Member) (a z i : ℕ) → z ≤ start_of ms i → down_rest inner ms a z i ≡ []
 down_end inner ms a z i end = down_nothing inner (drop i ms) (a - start_of ms i) (z - start_of ms i) (omega (arith, end))
 
-drop_all : (ms : List Member) (i : ℕ) → length ms ≤ i → drop i ms ≡ []
-drop_all [] zero all = refl
-drop_all [] (suc i) all = refl
-drop_all (m ∷ ms) zero all = absurd (omega arith)
-drop_all (m ∷ ms) (suc i) all = drop_all ms i (omega arith)
-
 pub down_all : (inner : ℕ → ℕ → ℕ → List Span) (ms : List Member) (a z i : ℕ) → length ms ≤ i → down_rest inner ms a z i ≡ []
-down_all inner ms a z i all = ap (λ xs. down_members inner xs (a - start_of ms i) (z - start_of ms i)) (drop_all ms i all)
+down_all inner ms a z i all = ap (λ xs. down_members inner xs (a - start_of ms i) (z - start_of ms i)) (drop_all i ms all)
 
 -- ---- one place
 
@@ -194,7 +192,7 @@ pub first_end : (inner : ℕ → ℕ → ℕ → Option ℕ) (ms : List Member) 
 first_end inner ms a z i end = ap (option_map (λ k. min z (start_of ms i) - a + k)) (first_nothing inner (drop i ms) (a - start_of ms i) (z - start_of ms i) (omega (arith, end)))
 
 pub first_all : (inner : ℕ → ℕ → ℕ → Option ℕ) (ms : List Member) (a z i : ℕ) → length ms ≤ i → first_from inner ms a z i ≡ None
-first_all inner ms a z i all = ap (λ xs. option_map (λ k. min z (start_of ms i) - a + k) (first_members inner xs (a - start_of ms i) (z - start_of ms i))) (drop_all ms i all)
+first_all inner ms a z i all = ap (λ xs. option_map (λ k. min z (start_of ms i) - a + k) (first_members inner xs (a - start_of ms i) (z - start_of ms i))) (drop_all i ms all)
 
 -- ---- up
 
@@ -205,4 +203,4 @@ pub up_next : (inner : ℕ → List Span) (ms : List Member) (i : ℕ) (m : Memb
 up_next inner ms i m is = ap (λ xs. up_members inner xs (start_of ms i)) (drop_get ms i m is) ∙ ap (λ x. up_member inner m (start_of ms i) ++ up_members inner (drop (suc i) ms) x) (sym (start_next ms i m is))
 
 pub up_all : (inner : ℕ → List Span) (ms : List Member) (i : ℕ) → length ms ≤ i → up_rest inner ms i ≡ []
-up_all inner ms i all = ap (λ xs. up_members inner xs (start_of ms i)) (drop_all ms i all)
+up_all inner ms i all = ap (λ xs. up_members inner xs (start_of ms i)) (drop_all i ms all)

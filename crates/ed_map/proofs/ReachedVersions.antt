@@ -10,6 +10,9 @@ use Rattle.ed_base.specs.Spans.{end_of}
 use Rattle.ed_layers.specs.Records.{Record, members_of, sources_of, version_in}
 use Rattle.ed_layers.specs.Cells.{cells, vector_within}
 use Rattle.ed_layers.specs.Mapping.{lower_version, lower_len}
+use Rattle.std.specs.Prelude.{All}
+use Rattle.std.proofs.lemmas.List.Elements.{All-nil, All-cons}
+use Rattle.ed_spans.specs.SpanSets.{EndsWithin}
 use Rattle.ed_map.specs.Layers.{record_len, EachTracked, AreLayers, OneVersion}
 use Rattle.ed_map.specs.Down.{down_member, down_members, down_within}
 use Rattle.ed_map.specs.Reached.{reached_within}
@@ -58,6 +61,10 @@ within_append n (s ∷ ss) ts a b = (a.0, within_append n ss ts a.1 b)
 pub within_more : (m n : ℕ) (ss : List Span) → m ≤ n → AllWithin m ss → AllWithin n ss
 within_more m n [] more a = tt
 within_more m n (s ∷ ss) more a = (omega (arith, a.0, more), within_more m n ss more a.1)
+
+pub all_within : (n : ℕ) (ss : List Span) → AllWithin n ss → All (EndsWithin n) ss
+all_within n [] a = All-nil (EndsWithin n)
+all_within n (s ∷ ss) a = All-cons (EndsWithin n) s ss a.0 (all_within n ss a.1)
 
 abbrev pub Lies : (ℕ → ℕ → ℕ → List Span) → ℕ → ℕ → Span → Type 0
 Lies inner n source bounds = (x y : ℕ) → x ≤ y → y ≤ end_of bounds → AllWithin n (inner source x y)

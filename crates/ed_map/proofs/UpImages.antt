@@ -54,11 +54,11 @@ cut_outside bounds at p s out = either (cases_lt (max s.start bounds.start) (min
     either (inr none) = rw (le-ltb (max s.start bounds.start) (min (end_of s) (end_of bounds)) none) refl
 
 -- all images cut to a member
-cuts_inside : (bounds : Span) (at k : ℕ) (ss : List Span) → k < bounds.len → in_spans (flat_map (cut_to bounds at) ss) (at + k) ≡ in_spans ss (bounds.start + k)
+pub cuts_inside : (bounds : Span) (at k : ℕ) (ss : List Span) → k < bounds.len → in_spans (flat_map (cut_to bounds at) ss) (at + k) ≡ in_spans ss (bounds.start + k)
 cuts_inside bounds at k [] inside = refl
 cuts_inside bounds at k (s ∷ ss) inside = list_any-append (λ (t : Span). holds_place t (at + k)) (cut_to bounds at s) (flat_map (cut_to bounds at) ss) ∙ rw (cut_inside bounds at k s inside, cuts_inside bounds at k ss inside) refl
 
-cuts_outside : (bounds : Span) (at p : ℕ) (ss : List Span) → (p < at) ⊎ (at + bounds.len ≤ p) → in_spans (flat_map (cut_to bounds at) ss) p ≡ false
+pub cuts_outside : (bounds : Span) (at p : ℕ) (ss : List Span) → (p < at) ⊎ (at + bounds.len ≤ p) → in_spans (flat_map (cut_to bounds at) ss) p ≡ false
 cuts_outside bounds at p [] out = refl
 cuts_outside bounds at p (s ∷ ss) out = list_any-append (λ (t : Span). holds_place t p) (cut_to bounds at s) (flat_map (cut_to bounds at) ss) ∙ rw (cut_outside bounds at p s out, cuts_outside bounds at p ss out) refl
 

@@ -3,10 +3,9 @@ ghost use Rattle.std.specs.Prelude.{◌≡◌, ℕ, ◌+◌, ◌-◌, ◌<◌, �
 ghost use Rattle.ed_base.specs.declared.edit.Span.{Span};
 ghost use Rattle.ed_base.specs.Spans.{end_of};
 ghost use Rattle.ed_layers.specs.Mapping.{up_span};
-ghost use Rattle.ed_map.specs.Images.{AreCuts, AreKnown, StandsAt};
-ghost use Rattle.ed_map.specs.Layers.{AreLayers};
+ghost use Rattle.ed_map.specs.Images.{AreKnown, HasPut, IsFound, clipped};
 ghost use Rattle.ed_map.specs.Up.{cut_to};
-ghost use Rattle.ed_spans.specs.SpanSets.{AreApartFrom};
+ghost use Rattle.ed_spans.specs.SpanSets.{AreApartFrom, AreRisingFrom, joined};
 
 use crate::images::{Known, is_at, slot_of};
 use crate::layers::{Layers, Placed};
@@ -36,6 +35,28 @@ fn first_ending_behind(spans: &[Span], at: u32) -> usize
     low
 }
 
+/// Puts what the bounds of a member have of a span of its source behind the others.
+///
+/// # Errors
+///
+/// Memory was refused.
+fn put_cut(span: Span, bounds: Span, at: u32, cuts: &mut Vec<Span>) -> Result<(), OutOfMemory>
+    requires span { end_of span < 2 ^ 32 }
+    requires bounds { end_of bounds < 2 ^ 32 }
+    requires place { at + bounds.len < 2 ^ 32 }
+    ensures { OnOk result (cuts.new.items ≡ cuts.old.items ++ cut_to bounds at span) }
+{
+    let from = span.start.max(bounds.start);
+    let to = (span.start + span.len).min(bounds.start + bounds.len);
+    if from < to {
+        cuts.push(Span {
+            start: at + (from - bounds.start),
+            len: to - from,
+        })?;
+    }
+    Ok(())
+}
+
 /// Puts what the bounds of a member have of these spans of its source behind the others, as the
 /// places that it shows them at. Spans that lie elsewhere aren't looked at.
 ///
@@ -59,14 +80,7 @@ fn put_cuts(
         if end <= span.start {
             return Ok(());
         }
-        let from = span.start.max(bounds.start);
-        let to = (span.start + span.len).min(end);
-        if from < to {
-            cuts.push(Span {
-                start: at + (from - bounds.start),
-                len: to - from,
-            })?;
-        }
+        put_cut(span, bounds, at, cuts)?;
     }
     Ok(())
 }
@@ -76,7 +90,9 @@ fn put_cuts(
 /// # Errors
 ///
 /// Memory was refused.
-fn put_own(span: Span, len: u32, cuts: &mut Vec<Span>) -> Result<(), OutOfMemory> {
+fn put_own(span: Span, len: u32, cuts: &mut Vec<Span>) -> Result<(), OutOfMemory>
+    ensures { OnOk result (cuts.new.items ≡ cuts.old.items ++ clipped span len) }
+{
     if span.start < len && 0 < span.len {
         cuts.push(Span {
             start: span.start,
@@ -98,6 +114,8 @@ fn keep(
     cuts: &[Span],
     known: &mut Vec<Known>,
 ) -> Result<usize, OutOfMemory>
+    requires { AreRisingFrom 0 (2 ^ 32 - 1) cuts.now }
+    ensures { IfOk result (λ i. HasPut b v (joined cuts.now) i known.old.items known.new.items) }
 {
     let spans = join_rising(alloc, cuts)?;
     let at = slot_of(known, b, v);
@@ -127,6 +145,8 @@ fn find_images<L: Layers>(
     known: &mut Vec<Known>,
 ) -> Result<usize, OutOfMemory>
     requires there { IsSome (L.record_at layers.now b v) }
+    requires known { AreKnown (L.record_at layers.now) (L.rank layers.now) of.0 of.1 known.old.items }
+    ensures { IfOk result (λ i. IsFound (L.record_at layers.now) (L.rank layers.now) of.0 of.1 b v i known.new.items) }
 {
     let found = slot_of(known, b, v);
     if is_at(known, found, b, v) {
@@ -138,16 +158,20 @@ fn find_images<L: Layers>(
         put_own(of.1, placed.len(), &mut cuts)?;
         return keep(alloc, b, v, &cuts, known);
     }
-    if let Placed::Carrier { members, sources } = placed {
-        for index in 0..members.count() {
-            if let Some(inner) = tracked(sources, members.get(index)) {
-                let at = find_images(alloc, layers, of, inner.source, inner.version, known)?;
-                let images = &known[at];
-                put_cuts(&images.spans, inner.part, members.place(index).start, &mut cuts)?;
+    match placed {
+        Placed::Base { .. } => keep(alloc, b, v, &cuts, known),
+        Placed::Carrier { members, sources } => {
+            for index in 0..members.count() {
+                if let Some(inner) = tracked(sources, members.get(index)) {
+                    let at = find_images(alloc, layers, of, inner.source, inner.version, known)?;
+                    let images = &known[at];
+                    let place = members.place(index);
+                    put_cuts(&images.spans, inner.part, place.start, &mut cuts)?;
+                }
             }
+            keep(alloc, b, v, &cuts, known)
         }
     }
-    keep(alloc, b, v, &cuts, known)
 }
 
 /// Where a version shows units of a span of a lower buffer, at the version of it that is reached:

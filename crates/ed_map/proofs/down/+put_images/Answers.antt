@@ -54,4 +54,4 @@ returns-then-end-at-clause-images g t c =
 pub returns-in-Base-clause-images : goal.returns-in-Base-clause-images
 returns-in-Base-clause-images g t c =
     down_none (g.L.Layers.record_at c.args.layers.now) (g.L.Layers.rank c.args.layers.now) c.placed-placed.ensures.layers c.args.to c.args.b c.args.v c.args.part.start (end_of c.args.part) c.requires.is c.args.images.now.items c.requires.there (sym c.if-eq.ensures)
-        (placed_base (g.L.Layers.record_at c.args.layers.now c.args.b c.args.v) c.requires.is c.in-Base.len c.requires.there c.in-Base.ensures.placed)
+        (placed_base (g.L.Layers.record_at c.args.layers.now c.args.b c.args.v) c.requires.is c.in-Base.len c.requires.there c.in-Base.ensures.placed).0

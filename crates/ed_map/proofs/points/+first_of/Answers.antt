@@ -66,4 +66,4 @@ loop-index-preserved g t c =
 pub returns-in-Base-clause-first : goal.returns-in-Base-clause-first
 returns-in-Base-clause-first g t c =
     first_none (g.L.Layers.record_at c.args.layers.now) (g.L.Layers.rank c.args.layers.now) c.placed-placed.ensures.layers c.args.of c.args.unit c.args.b c.args.v c.args.part.start (end_of c.args.part) c.requires.is c.requires.there (sym c.if-eq.ensures)
-        (placed_base (g.L.Layers.record_at c.args.layers.now c.args.b c.args.v) c.requires.is c.in-Base.len c.requires.there c.in-Base.ensures.placed)
+        (placed_base (g.L.Layers.record_at c.args.layers.now c.args.b c.args.v) c.requires.is c.in-Base.len c.requires.there c.in-Base.ensures.placed).0

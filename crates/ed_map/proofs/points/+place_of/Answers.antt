@@ -6,7 +6,7 @@ use Rattle.ed_map.specs.declared.shown.Shown.{Shown}
 use Rattle.ed_map.specs.Down.{place_within}
 use Rattle.ed_map.proofs.UnitPlaces.{places_own}
 use Rattle.ed_map.proofs.MemberParts.{start_of, get_below}
-use Rattle.ed_map.proofs.ShownLemmas.{placed_members, placed_base, ends_short, shown_below, below_reaches}
+use Rattle.ed_map.proofs.ShownLemmas.{placed_members, placed_base, ends_short, shown_below, shown_some, below_reaches}
 use Rattle.ed_map.proofs.DownSteps.{place_found, place_none}
 use Rattle.ed_map.proofs.points.+place_of.Goals as goal
 
@@ -35,12 +35,12 @@ place_of-requires g t c κs within =
     let below = shown_below (g.L.Layers.record_at c.args.layers.now) (g.L.Layers.rank c.args.layers.now) c.placed-placed.ensures.layers c.args.b c.args.v c.first_behind-index.result c.requires.is c.get.result.now (c.args.k - c.place-at.result.start) (c.args.k + 1 - c.place-at.result.start) inner c.requires.there (ap (λ ms. slice_get ms c.first_behind-index.result) (sym p.0) ∙ c.get.ensures)
         (ap (λ ss. shown ss c.get.result.now (c.args.k - c.place-at.result.start) (c.args.k + 1 - c.place-at.result.start)) (sym p.1) ∙ sym c.in_ok-inner-in-Carrier.ensures) in
     let d : g.L.Layers.rank c.args.layers.now c.args.b c.args.v ≡ t = c.decreases in
-    (omega (arith, d, below.lower), (within, below_reaches (g.L.Layers.record_at c.args.layers.now) (g.L.Layers.rank c.args.layers.now) c.placed-placed.ensures.layers (inner.part.start + 1) below (omega (arith, below.some))))
+    (omega (arith, d, below.lower), (within, below_reaches (g.L.Layers.record_at c.args.layers.now) (g.L.Layers.rank c.args.layers.now) c.placed-placed.ensures.layers (inner.part.start + 1) below (let some = shown_some c.in-Carrier.sources.now c.get.result.now (c.args.k - c.place-at.result.start) (c.args.k + 1 - c.place-at.result.start) inner (sym c.in_ok-inner-in-Carrier.ensures) in omega (arith, some))))
 
 pub returns-in-Base-clause-place : goal.returns-in-Base-clause-place
 returns-in-Base-clause-place g t c =
     place_none (g.L.Layers.record_at c.args.layers.now) (g.L.Layers.rank c.args.layers.now) c.placed-placed.ensures.layers c.args.to c.args.b c.args.v c.args.k c.requires.is c.requires.there (sym c.if-eq.ensures)
-        (placed_base (g.L.Layers.record_at c.args.layers.now c.args.b c.args.v) c.requires.is c.in-Base.len c.requires.there c.in-Base.ensures.placed)
+        (placed_base (g.L.Layers.record_at c.args.layers.now c.args.b c.args.v) c.requires.is c.in-Base.len c.requires.there c.in-Base.ensures.placed).0
 
 pub returns-in_ok-inner-in-Carrier-clause-place : goal.returns-in_ok-inner-in-Carrier-clause-place
 returns-in_ok-inner-in-Carrier-clause-place g t c =
