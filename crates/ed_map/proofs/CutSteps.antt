@@ -1,10 +1,10 @@
 -- The images in a source, cut to a member.
-use Rattle.std.proofs.Common.{◌≡◌, ℕ, zero, suc, ◌+◌, ◌-◌, ◌<◌, ◌≤◌, ◌⊎◌, Bool, true, false, ◌||◌, List, [], ◌∷◌, ◌++◌, length, drop, Some, None, Option, inl, inr, refl, sym, ap, ◌∙◌, append_assoc, arith}
-use Rattle.std.specs.Prelude.{slice_get, nat_lt, flat_map, min, max}
+use Rattle.std.proofs.Common.{◌≡◌, ℕ, zero, suc, ◌+◌, ◌-◌, ◌<◌, ◌≤◌, ◌⊎◌, List, [], ◌∷◌, ◌++◌, length, drop, Some, inl, inr, refl, sym, ap, ◌∙◌, append_assoc, arith}
+use Rattle.std.specs.Prelude.{slice_get, flat_map, min, max}
 use Rattle.std.proofs.lemmas.Bool.{cases_lt, lt-ltb, le-ltb}
 use Rattle.std.proofs.lemmas.List.{append-nil, drop_all}
 use Rattle.ed_base.specs.declared.edit.Span.{Span}
-use Rattle.ed_base.specs.Spans.{end_of, span_between}
+use Rattle.ed_base.specs.Spans.{end_of}
 use Rattle.ed_spans.specs.SpanSets.{in_spans, AreApartFrom, AreRisingFrom}
 use Rattle.ed_spans.proofs.JoinLemmas.{rising_earlier}
 use Rattle.ed_map.specs.Up.{cut_to}

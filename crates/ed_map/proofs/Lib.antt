@@ -5,7 +5,6 @@ pub mod MappedSpans
 pub mod UnitPlaces
 pub mod FirstPlaces
 pub mod ReachedVersions
-pub mod ImageBounds
 pub mod Levels
 pub mod MemberParts
 pub mod ShownLemmas

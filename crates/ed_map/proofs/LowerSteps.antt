@@ -1,22 +1,20 @@
 -- Versions that are reached, source after source.
-use Rattle.std.proofs.Common.{◌≡◌, ℕ, zero, suc, ◌+◌, ◌-◌, ◌<◌, ◌≤◌, ◌^◌, ◌⊎◌, Bool, true, false, List, [], ◌∷◌, length, map, drop, Some, None, Option, inl, inr, refl, sym, ap, subst, ◌∙◌, arith}
-use Rattle.std.specs.Prelude.{All, slice_get, slice_index_or, nat_eq, nat_lt, min, option_map, option_and_then, if◌then◌else◌, IfSome, IsSome}
+use Rattle.std.proofs.Common.{◌≡◌, ℕ, zero, suc, ◌+◌, ◌-◌, ◌<◌, ◌≤◌, ◌^◌, Bool, true, false, List, [], ◌∷◌, length, map, Some, None, Option, inl, inr, refl, sym, ap, subst, ◌∙◌, arith}
+use Rattle.std.specs.Prelude.{All, slice_index_or, nat_eq, min, if◌then◌else◌}
 use Rattle.std.specs.Option.{option_map_or}
-use Rattle.std.proofs.lemmas.Bool.{cases_lt, lt-ltb, le-ltb, eqb-true, eq-eqb}
+use Rattle.std.proofs.lemmas.Bool.{cases_lt, lt-ltb, le-ltb, eqb-true}
 use Rattle.std.proofs.lemmas.List.Elements.{All-head, All-tail}
-use Rattle.ed_base.specs.declared.edit.Span.{Span}
-use Rattle.ed_base.specs.declared.mode.Affinity.{Affinity}
 use Rattle.ed_base.specs.declared.piece.Member.{Member}
 use Rattle.ed_base.specs.Numbers.{or_else, first_some}
 use Rattle.ed_layers.specs.Records.{Record, members_of, member_len, sources_of, version_in}
 use Rattle.ed_layers.specs.Cells.{cells}
-use Rattle.ed_layers.specs.Mapping.{lower_version, lower_len, up_point, unit_by, beside}
+use Rattle.ed_layers.specs.Mapping.{lower_version, lower_len}
 use Rattle.ed_map.specs.Layers.{record_len, IsLower, AreLayers}
 use Rattle.ed_map.specs.Reached.{reached_within}
 use Rattle.ed_map.specs.Up.{first_member, first_members, first_within}
 use Rattle.ed_map.proofs.MemberCells.{cells_len}
-use Rattle.ed_map.proofs.FirstPlaces.{inner_firsts, firsts_other, up_point_is}
-use Rattle.ed_map.proofs.ReachedVersions.{lower_version_is, lower_own}
+use Rattle.ed_map.proofs.FirstPlaces.{inner_firsts}
+use Rattle.ed_map.proofs.ReachedVersions.{lower_version_is}
 
 abbrev pub AllNone : (ℕ × ℕ → Option ℕ) → List (ℕ × ℕ) → Type 0
 AllNone f xs = first_some (map f xs) ≡ None

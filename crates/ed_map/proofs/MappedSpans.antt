@@ -1,5 +1,5 @@
 -- The mapping of spans, by members.
-use Rattle.std.proofs.Common.{◌≡◌, ℕ, ◌≤◌, List, length, Some, Option, sym, ap, ◌∙◌, arith}
+use Rattle.std.proofs.Common.{◌≡◌, ℕ, ◌≤◌, length, Some, Option, ap, ◌∙◌, arith}
 use Rattle.ed_base.specs.declared.edit.Span.{Span}
 use Rattle.ed_base.specs.Spans.{end_of}
 use Rattle.ed_base.specs.Runs.{runs}
@@ -8,15 +8,14 @@ use Rattle.ed_layers.specs.Cells.{cells}
 use Rattle.ed_layers.specs.Mapping.{down_span, up_span, lower_len}
 use Rattle.ed_map.specs.Layers.{record_len, AreLayers, OneVersion}
 use Rattle.ed_map.specs.Down.{down_within}
-use Rattle.ed_spans.specs.SpanSets.{in_spans, joined, AreRisingFrom, EndsWithin}
+use Rattle.ed_spans.specs.SpanSets.{in_spans, EndsWithin}
 use Rattle.ed_map.specs.Up.{up_within}
 use Rattle.ed_map.proofs.MemberCells.{cells_len}
 use Rattle.ed_map.proofs.DownImages.{down_holds}
 use Rattle.ed_map.proofs.UpImages.{up_holds}
 use Rattle.std.specs.Prelude.{All}
 use Rattle.ed_map.proofs.ReachedVersions.{all_within, down_inside}
-use Rattle.ed_spans.proofs.RunLemmas.{runs_same, apart_runs}
-use Rattle.ed_spans.proofs.JoinLemmas.{joined_apart, joined_holds}
+use Rattle.ed_spans.proofs.RunLemmas.{runs_same}
 
 module _ (record_at : ℕ → ℕ → Option Record) (rank : ℕ → ℕ → ℕ) where
   pub down_span_runs : AreLayers record_at rank → (top v : ℕ) (span : Span) (to : ℕ) (r : Record) → record_at top v ≡ Some r → end_of span ≤ record_len r →
@@ -28,19 +27,6 @@ module _ (record_at : ℕ → ℕ → Option Record) (rank : ℕ → ℕ → ℕ
   up_span_runs layers top v span of_ r is =
       let n : length (cells record_at top v) ≡ record_len r = cells_len record_at rank layers 9 top v r is (omega (arith, layers.low top v r is)) in
       ap (runs _) n ∙ runs_same _ _ (record_len r) (λ k below. up_holds record_at rank layers 9 of_ span top v k r is (omega (arith, layers.low top v r is)) below)
-
-  -- What a pass gives that has the images sorted: any rising list that holds what they hold.
-  pub down_span_is : AreLayers record_at rank → (top v : ℕ) (span : Span) (to : ℕ) (r : Record) (sorted : List Span) → record_at top v ≡ Some r → end_of span ≤ record_len r →
-      AreRisingFrom 0 (lower_len record_at top v to) sorted → ((q : ℕ) → in_spans (down_within record_at 9 to top v span.start (end_of span)) q ≡ in_spans sorted q) → down_span record_at top v span to ≡ joined sorted
-  down_span_is layers top v span to r sorted is within rising same =
-      down_span_runs layers top v span to r is within
-      ∙ apart_runs (in_spans (down_within record_at 9 to top v span.start (end_of span))) (lower_len record_at top v to) (joined sorted) (joined_apart (lower_len record_at top v to) sorted rising) (λ q below. same q ∙ sym (joined_holds (lower_len record_at top v to) q sorted rising))
-
-  pub up_span_is : AreLayers record_at rank → (top v : ℕ) (span : Span) (of_ : ℕ) (r : Record) (sorted : List Span) → record_at top v ≡ Some r →
-      AreRisingFrom 0 (record_len r) sorted → ((k : ℕ) → in_spans (up_within record_at 9 of_ span top v) k ≡ in_spans sorted k) → up_span record_at top v span of_ ≡ joined sorted
-  up_span_is layers top v span of_ r sorted is rising same =
-      up_span_runs layers top v span of_ r is
-      ∙ apart_runs (in_spans (up_within record_at 9 of_ span top v)) (record_len r) (joined sorted) (joined_apart (record_len r) sorted rising) (λ k below. same k ∙ sym (joined_holds (record_len r) k sorted rising))
 
   -- where the images of a span end
   pub down_ends : AreLayers record_at rank → OneVersion record_at → (top v : ℕ) (span : Span) (to : ℕ) (r : Record) → record_at top v ≡ Some r → end_of span ≤ record_len r → All (EndsWithin (lower_len record_at top v to)) (down_within record_at 9 to top v span.start (end_of span))

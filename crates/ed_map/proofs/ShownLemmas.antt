@@ -1,7 +1,6 @@
 -- What a member shows is there, and stands lower.
-use Rattle.std.proofs.Common.{◌≡◌, ℕ, zero, suc, ◌+◌, ◌-◌, ◌<◌, ◌≤◌, ◌^◌, ◌⊎◌, Bool, true, false, List, [], ◌∷◌, ◌++◌, length, Some, None, Option, inl, inr, refl, sym, ap, subst, ◌∙◌, arith}
-use Rattle.std.specs.Prelude.{slice_get, nat_eq, nat_lt, min, option_map, IfSome, IsSome}
-use Rattle.std.specs.Option.{option_map_or}
+use Rattle.std.proofs.Common.{◌≡◌, ℕ, ◌+◌, ◌-◌, ◌<◌, ◌≤◌, ◌⊎◌, true, false, List, [], Some, None, Option, inl, inr, refl, sym, ap, subst, ◌∙◌, arith}
+use Rattle.std.specs.Prelude.{slice_get, nat_eq, min, option_map, IfSome, IsSome}
 use Rattle.std.proofs.lemmas.Bool.{cases_lt, lt-ltb, le-ltb}
 use Rattle.ed_base.specs.declared.edit.Span.{Span}
 use Rattle.ed_base.specs.declared.piece.Member.{Member}
@@ -12,13 +11,13 @@ use Rattle.ed_map.specs.declared.layers.Placed.{Placed}
 use Rattle.ed_map.specs.Placing.{IsPlaced}
 use Rattle.ed_map.specs.declared.shown.Shown.{Shown}
 use Rattle.ed_map.specs.Layers.{record_len, Stands, AreLayers, EndsShort}
-use Rattle.ed_map.specs.Down.{down_member, down_members, place_member, place_members, down_within, place_within}
-use Rattle.ed_map.specs.Up.{up_member, up_members, up_within, first_member, first_members, first_within, cut_to}
+use Rattle.ed_map.specs.Down.{down_members, place_members, down_within, place_within}
+use Rattle.ed_map.specs.Up.{up_members, up_within, first_members, first_within}
 use Rattle.ed_map.specs.Shown.{ReachesTo, shown, tracked}
-use Rattle.ed_map.proofs.DownImages.{inner_images, images_own, images_other}
-use Rattle.ed_map.proofs.UpImages.{inner_ups, ups_own, ups_other}
-use Rattle.ed_map.proofs.UnitPlaces.{inner_places, places_own, places_other}
-use Rattle.ed_map.proofs.FirstPlaces.{inner_firsts, firsts_own, firsts_other}
+use Rattle.ed_map.proofs.DownImages.{inner_images, images_other}
+use Rattle.ed_map.proofs.UpImages.{inner_ups, ups_other}
+use Rattle.ed_map.proofs.UnitPlaces.{inner_places, places_other}
+use Rattle.ed_map.proofs.FirstPlaces.{inner_firsts, firsts_other}
 use Rattle.ed_map.proofs.Levels.{down_levels, up_levels, place_levels, first_levels}
 use Rattle.ed_map.proofs.MemberParts.{HoldsOf, each_at}
 

@@ -1,21 +1,21 @@
 -- Mapping up, member after member.
-use Rattle.std.proofs.Common.{◌≡◌, ℕ, zero, suc, ◌+◌, ◌-◌, ◌<◌, ◌≤◌, ◌^◌, ◌⊎◌, Bool, true, false, ◌||◌, ◌&&◌, List, [], ◌∷◌, ◌++◌, length, take, drop, Some, None, Option, inl, inr, refl, sym, ap, subst, ◌∙◌, append_assoc, arith}
-use Rattle.std.specs.Prelude.{All, insert, slice_get, slice_index_or, nat_eq, nat_lt, flat_map, min, max, option_map, if◌then◌else◌}
+use Rattle.std.proofs.Common.{◌≡◌, ℕ, zero, suc, ◌+◌, ◌-◌, ◌<◌, ◌≤◌, ◌^◌, ◌⊎◌, Bool, true, false, ◌||◌, ◌&&◌, List, [], ◌∷◌, ◌++◌, length, take, drop, Some, None, Option, inl, inr, refl, sym, ap, subst, ◌∙◌, arith}
+use Rattle.std.specs.Prelude.{All, insert, slice_get, slice_index_or, nat_eq, nat_lt, flat_map, min, option_map}
 use Rattle.std.specs.Option.{option_map_or}
 use Rattle.std.proofs.lemmas.Bool.{cases_lt, lt-ltb, le-ltb}
-use Rattle.std.proofs.lemmas.List.{append-nil, take_all}
+use Rattle.std.proofs.lemmas.List.{take_all}
 use Rattle.std.proofs.lemmas.Option.{get_or_from_slice_get}
 use Rattle.std.proofs.lemmas.List.Elements.{All-append, All-cons, All-take, All-drop}
 use Rattle.ed_base.specs.declared.edit.Span.{Span}
 use Rattle.ed_base.specs.declared.piece.Member.{Member}
-use Rattle.ed_base.specs.Spans.{end_of, span_between, holds_place}
-use Rattle.ed_layers.specs.Records.{Record, base, projection, elision, is_carrier, members_of, members_len, member_len, sources_of, version_in}
+use Rattle.ed_base.specs.Spans.{end_of, holds_place}
+use Rattle.ed_layers.specs.Records.{Record, members_of, members_len, sources_of, version_in}
 use Rattle.ed_spans.specs.SpanSets.{in_spans, AreApartFrom, AreRisingFrom, joined}
 use Rattle.ed_spans.proofs.PlaceLemmas.{spans_append, same_bool, holds_from, holds_none, holds_parts}
 use Rattle.ed_spans.proofs.JoinLemmas.{joined_apart, joined_holds}
 use Rattle.ed_map.specs.declared.images.Known.{Known}
 use Rattle.ed_map.specs.declared.shown.Shown.{Shown}
-use Rattle.ed_map.specs.Layers.{record_len, Stands, AreLayers}
+use Rattle.ed_map.specs.Layers.{record_len, AreLayers}
 use Rattle.ed_map.specs.Images.{AreImages, AreKnown, StandsAt, IsFound, HasPut, clipped}
 use Rattle.ed_map.specs.Shown.{tracked}
 use Rattle.ed_map.specs.Up.{cut_to, up_member, up_members, up_within}
@@ -87,11 +87,11 @@ module _ (record_at : ℕ → ℕ → Option Record) (of_ : ℕ) (span : Span) (
       let here : P (suc i) = record {
         rising = subst R (sym put) (rising_append 0 (start_of ms i) (start_of ms (suc i)) cuts mine (omega arith) (omega (arith, end)) so_far.rising (rising_more (start_of ms i) (start_of ms i + s.part.len) (start_of ms (suc i)) mine (omega (arith, end)) (cuts_rising s.part (start_of ms i) n images apart)));
         holds = λ k.
-          let a : in_spans more k ≡ (in_spans cuts k || in_spans mine k) = ap (λ xs. in_spans xs k) put ∙ spans_append cuts mine k in
-          let r : in_spans (up_rest source_ups ms i) k ≡ (in_spans mine k || in_spans (up_rest source_ups ms (suc i)) k) =
+            let a : in_spans more k ≡ (in_spans cuts k || in_spans mine k) = ap (λ xs. in_spans xs k) put ∙ spans_append cuts mine k in
+            let r : in_spans (up_rest source_ups ms i) k ≡ (in_spans mine k || in_spans (up_rest source_ups ms (suc i)) k) =
             ap (λ xs. in_spans xs k) (up_next source_ups ms i m at) ∙ spans_append (up_member source_ups m (start_of ms i)) (up_rest source_ups ms (suc i)) k
             ∙ ap (λ x. x || in_spans (up_rest source_ups ms (suc i)) k) (ap (λ xs. in_spans xs k) it.cuts ∙ cuts_same s.part (start_of ms i) k (up_within record_at 9 of_ span s.source s.version) images same) in
-          ap (λ x. x || in_spans (up_rest source_ups ms (suc i)) k) a ∙ or_assoc (in_spans cuts k) (in_spans mine k) (in_spans (up_rest source_ups ms (suc i)) k) ∙ ap (λ x. in_spans cuts k || x) (sym r) ∙ so_far.holds k;
+            ap (λ x. x || in_spans (up_rest source_ups ms (suc i)) k) a ∙ or_assoc (in_spans cuts k) (in_spans mine k) (in_spans (up_rest source_ups ms (suc i)) k) ∙ ap (λ x. in_spans cuts k || x) (sym r) ∙ so_far.holds k;
       } in
       subst P (sym next) here
     where
@@ -142,8 +142,8 @@ clip_holds span len k below = by (cases_lt span.start len) (cases_lt 0 span.len)
     by : ((span.start < len) ⊎ (len ≤ span.start)) → ((0 < span.len) ⊎ (span.len ≤ 0)) → holds_place span k ≡ in_spans (clipped span len) k
     by (inl inside) (inl some) =
         same_bool (holds_place span k) (holds_place (clip span len) k)
-          (λ is. let h : (span.start ≤ k) × (k < end_of span) = holds_parts span k is in holds_from (clip span len) k h.0 (omega (arith, h.0, h.1, below)))
-          (λ is. let h : (span.start ≤ k) × (k < span.start + min span.len (len - span.start)) = holds_parts (clip span len) k is in holds_from span k h.0 (omega (arith, h.1)))
+        (λ is. let h : (span.start ≤ k) × (k < end_of span) = holds_parts span k is in holds_from (clip span len) k h.0 (omega (arith, h.0, h.1, below)))
+        (λ is. let h : (span.start ≤ k) × (k < span.start + min span.len (len - span.start)) = holds_parts (clip span len) k is in holds_from span k h.0 (omega (arith, h.1)))
         ∙ sym (ap (λ xs. in_spans xs k) (clip_some span len inside some) ∙ or_false (holds_place (clip span len) k))
     by (inr behind) any = holds_none span k (λ from to. omega (arith, from, behind, below)) ∙ sym (ap (λ xs. in_spans xs k) (clip_none span len (inl behind)))
     by (inl inside) (inr empty) = holds_none span k (λ from to. omega (arith, from, to, empty)) ∙ sym (ap (λ xs. in_spans xs k) (clip_none span len (inr empty)))

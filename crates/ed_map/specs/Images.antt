@@ -2,7 +2,7 @@
 use Rattle.std.specs.Prelude.{◌≡◌, ℕ, ◌-◌, ◌<◌, ◌≤◌, ◌&&◌, All, List, [], ◌∷◌, length, min, nat_lt, insert, slice_get, Option, Some, if◌then◌else◌}
 use Rattle.ed_base.specs.declared.edit.Span.{Span}
 use Rattle.ed_layers.specs.Records.{Record}
-use Rattle.ed_spans.specs.SpanSets.{AreApartFrom, AreRisingFrom, in_spans, joined}
+use Rattle.ed_spans.specs.SpanSets.{AreApartFrom, in_spans}
 use Rattle.ed_map.specs.declared.images.Known.{Known}
 use Rattle.ed_map.specs.Layers.{record_len, AreLayers}
 use Rattle.ed_map.specs.Up.{up_within}

@@ -3,7 +3,7 @@ use Rattle.std.specs.Prelude.{◌≡◌, ℕ, ◌<◌, ◌≤◌, ◌^◌, All, 
 use Rattle.ed_base.specs.declared.edit.Span.{Span}
 use Rattle.ed_base.specs.declared.piece.Member.{Member}
 use Rattle.ed_base.specs.Spans.{end_of}
-use Rattle.ed_layers.specs.Records.{Record, base, projection, elision, is_carrier, members_of, members_len, sources_of, version_in}
+use Rattle.ed_layers.specs.Records.{Record, base, projection, elision, members_of, members_len, sources_of, version_in}
 use Rattle.ed_layers.specs.Mapping.{lower_version}
 
 -- the length of the text of a version

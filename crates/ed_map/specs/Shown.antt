@@ -1,8 +1,7 @@
 -- Versions that are there, and what a member shows of a part of its carrier's text.
-use Rattle.std.specs.Prelude.{◌≡◌, ℕ, ◌+◌, ◌-◌, ◌≤◌, List, min, nat_lt, Option, Some, None, option_map, if◌then◌else◌}
-use Rattle.ed_base.specs.declared.edit.Span.{Span}
+use Rattle.std.specs.Prelude.{◌≡◌, ℕ, ◌+◌, ◌≤◌, List, min, nat_lt, Option, Some, None, option_map, if◌then◌else◌}
 use Rattle.ed_base.specs.declared.piece.Member.{Member}
-use Rattle.ed_base.specs.Spans.{end_of, span_between}
+use Rattle.ed_base.specs.Spans.{span_between}
 use Rattle.ed_layers.specs.Records.{Record, version_in}
 use Rattle.ed_map.specs.declared.shown.Shown.{Shown}
 use Rattle.ed_map.specs.Layers.{record_len}

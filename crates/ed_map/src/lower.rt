@@ -1,7 +1,6 @@
 //! Versions that a version reaches.
 ghost use Rattle.std.specs.Prelude.{◌≡◌, IfSome, IsSome};
 ghost use Rattle.ed_layers.specs.Mapping.{lower_version};
-ghost use Rattle.ed_map.specs.Layers.{AreLayers};
 
 use crate::layers::{Layers, Placed};
 use ed_base::{BufferNo, VersionNo};
@@ -17,7 +16,6 @@ pub fn lower_version<L: Layers>(
     requires { IsSome (L.record_at layers.now top v) }
     ensures version { result ≡ lower_version (L.record_at layers.now) top v of }
     ensures there { IfSome result (λ w. IsSome (L.record_at layers.now of w)) }
-    ensures layers { AreLayers (L.record_at layers.now) (L.rank layers.now) }
 {
     let placed = layers.placed(top, v);
     if top == of {

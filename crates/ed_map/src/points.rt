@@ -35,13 +35,7 @@ fn beside(before: bool, unit: u32) -> u32
 }
 
 /// The place in a lower buffer of the unit at a place.
-fn place_of<L: Layers>(
-    layers: &L,
-    to: BufferNo,
-    b: BufferNo,
-    v: VersionNo,
-    k: u32,
-) -> Option<u32>
+fn place_of<L: Layers>(layers: &L, to: BufferNo, b: BufferNo, v: VersionNo, k: u32) -> Option<u32>
     requires { ReachesTo (L.record_at layers.now) b v (k + 1) }
     ensures place { result ≡ place_within (L.record_at layers.now) 9 to b v k }
     ensures short { IfSome result (λ q. q < 2 ^ 22) }
@@ -155,13 +149,13 @@ pub fn up_point<L: Layers>(
     requires { IsSome (L.record_at layers.now top v) }
     ensures { result ≡ up_point (L.record_at layers.now) top v p side of }
 {
-    let version = lower_version(layers, top, v, of)?;
-    let len = layers.placed(of, version).len();
-    let (unit, before) = unit_by(side, len, p)?;
     let whole = Span {
         start: 0,
         len: layers.placed(top, v).len(),
     };
+    let version = lower_version(layers, top, v, of)?;
+    let len = layers.placed(of, version).len();
+    let (unit, before) = unit_by(side, len, p)?;
     let first = first_of(layers, of, unit, top, v, whole)?;
     Some(beside(before, first))
 }

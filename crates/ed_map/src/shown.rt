@@ -9,7 +9,7 @@ use ed_base::{BufferNo, Member, Span, VersionList, VersionNo};
 use ed_members::Members;
 
 /// A part of the text of a source, at the version that a carrier names.
-#[derive(Clone, Copy, Debug, PartialEq, Eq)]
+#[derive(Clone, Copy)]
 pub struct Shown {
     pub source: BufferNo,
     pub version: VersionNo,
@@ -62,9 +62,7 @@ pub fn shown_by(sources: &VersionList, member: &Member, at: u32, part: Span) -> 
         Member::Literal(_) => None,
         Member::Tracked { source, bounds, .. } => {
             let from = part.start.saturating_sub(at);
-            let to = (part.start + part.len)
-                .saturating_sub(at)
-                .min(bounds.len);
+            let to = (part.start + part.len).saturating_sub(at).min(bounds.len);
             if to <= from {
                 return None;
             }

@@ -63,12 +63,7 @@ fn put_cut(span: Span, bounds: Span, at: u32, cuts: &mut Vec<Span>) -> Result<()
 /// # Errors
 ///
 /// Memory was refused.
-fn put_cuts(
-    spans: &[Span],
-    bounds: Span,
-    at: u32,
-    cuts: &mut Vec<Span>,
-) -> Result<(), OutOfMemory>
+fn put_cuts(spans: &[Span], bounds: Span, at: u32, cuts: &mut Vec<Span>) -> Result<(), OutOfMemory>
     requires apart { AreApartFrom 0 (2 ^ 32 - 1) spans.now }
     requires bounds { end_of bounds < 2 ^ 32 }
     requires place { at + bounds.len < 2 ^ 32 }
@@ -139,14 +134,15 @@ fn keep(
 fn find_images<L: Layers>(
     alloc: Global,
     layers: &L,
-    of: (BufferNo, Span),
+    of: BufferNo,
+    span: Span,
     b: BufferNo,
     v: VersionNo,
     known: &mut Vec<Known>,
 ) -> Result<usize, OutOfMemory>
     requires there { IsSome (L.record_at layers.now b v) }
-    requires known { AreKnown (L.record_at layers.now) (L.rank layers.now) of.0 of.1 known.old.items }
-    ensures { IfOk result (λ i. IsFound (L.record_at layers.now) (L.rank layers.now) of.0 of.1 b v i known.new.items) }
+    requires known { AreKnown (L.record_at layers.now) (L.rank layers.now) of span known.old.items }
+    ensures { IfOk result (λ i. IsFound (L.record_at layers.now) (L.rank layers.now) of span b v i known.new.items) }
 {
     let found = slot_of(known, b, v);
     if is_at(known, found, b, v) {
@@ -154,8 +150,8 @@ fn find_images<L: Layers>(
     }
     let mut cuts = Vec::new(alloc);
     let placed = layers.placed(b, v);
-    if b == of.0 {
-        put_own(of.1, placed.len(), &mut cuts)?;
+    if b == of {
+        put_own(span, placed.len(), &mut cuts)?;
         return keep(alloc, b, v, &cuts, known);
     }
     match placed {
@@ -163,7 +159,15 @@ fn find_images<L: Layers>(
         Placed::Carrier { members, sources } => {
             for index in 0..members.count() {
                 if let Some(inner) = tracked(sources, members.get(index)) {
-                    let at = find_images(alloc, layers, of, inner.source, inner.version, known)?;
+                    let at = find_images(
+                        alloc,
+                        layers,
+                        of,
+                        span,
+                        inner.source,
+                        inner.version,
+                        known,
+                    )?;
                     let images = &known[at];
                     let place = members.place(index);
                     put_cuts(&images.spans, inner.part, place.start, &mut cuts)?;
@@ -195,7 +199,7 @@ pub fn up_span<L: Layers>(
     ensures { IfOk result (λ spans. spans ≡ up_span (L.record_at layers.now) top v span of) }
 {
     let mut known = Vec::new(alloc);
-    let at = find_images(alloc, layers, (of, span), top, v, &mut known)?;
+    let at = find_images(alloc, layers, of, span, top, v, &mut known)?;
     let found = known.remove(at);
     let Known { spans, .. } = found;
     SpanList::of(alloc, spans)

@@ -1,4 +1,4 @@
-use Rattle.std.proofs.Common.{rules, ◌≡◌, ◌++◌, ℕ, ◌+◌, ◌-◌, ◌<◌, ◌≤◌, length, ap, sym, ◌∙◌, inl, inr, arith, Option, Some, None}
+use Rattle.std.proofs.Common.{◌≡◌, ◌++◌, ◌+◌, ◌-◌, ap, sym, ◌∙◌, inl, arith, Option, Some, None}
 use Rattle.std.specs.Prelude.{slice_get}
 use Rattle.std.proofs.lemmas.List.{append-nil}
 use Rattle.ed_base.specs.Spans.{end_of}
@@ -25,7 +25,7 @@ pub put_images-requires : goal.put_images-requires
 put_images-requires g t c κs within =
     let p = placed_members (g.L.Layers.record_at c.args.layers.now c.args.b c.args.v) c.requires.is c.in-Carrier.members c.in-Carrier.sources c.requires.there c.in-Carrier.ensures.placed in
     let below = shown_below (g.L.Layers.record_at c.args.layers.now) (g.L.Layers.rank c.args.layers.now) c.placed-placed.ensures.layers c.args.b c.args.v c.loop-index.index c.requires.is c.get.result.now (c.args.part.start - c.place-at.result.start) (end_of c.args.part - c.place-at.result.start) c.in-Some.inner c.requires.there (ap (λ ms. slice_get ms c.loop-index.index) (sym p.0) ∙ c.get.ensures)
-        (ap (λ ss. shown ss c.get.result.now (c.args.part.start - c.place-at.result.start) (end_of c.args.part - c.place-at.result.start)) (sym p.1) ∙ sym c.in-Some.ensures) in
+    (ap (λ ss. shown ss c.get.result.now (c.args.part.start - c.place-at.result.start) (end_of c.args.part - c.place-at.result.start)) (sym p.1) ∙ sym c.in-Some.ensures) in
     let d : g.L.Layers.rank c.args.layers.now c.args.b c.args.v ≡ t = c.decreases in
     (omega (arith, d, below.lower), (within, below_reaches (g.L.Layers.record_at c.args.layers.now) (g.L.Layers.rank c.args.layers.now) c.placed-placed.ensures.layers (end_of c.in-Some.inner.part) below (omega arith)))
 
@@ -35,7 +35,7 @@ loop-index-preserved g t c =
     let start : c.place-at.result.start ≡ start_of c.in-Carrier.members.now c.loop-index.index = ap (λ s. s.start) c.place-at.ensures.place in
     let shows : Option Shown → Type 0 = λ o. o ≡ shown c.in-Carrier.sources.now c.get.result.now (c.args.part.start - start_of c.in-Carrier.members.now c.loop-index.index) (end_of c.args.part - start_of c.in-Carrier.members.now c.loop-index.index) in
     let more : (o : Option Shown) → shows o → c.match-shown_by.images.items ≡ c.loop-index.images.items ++ shown_images record_at c.args.to c.in-Carrier.sources.now o → c.match-shown_by.images.items ++ down_rest (source_images record_at c.args.to c.in-Carrier.sources.now) c.in-Carrier.members.now c.args.part.start (end_of c.args.part) (c.loop-index.index + 1) ≡ c.args.images.now.items ++ down_within record_at 9 c.args.to c.args.b c.args.v c.args.part.start (end_of c.args.part) =
-        λ o is put. down_more record_at c.args.to c.in-Carrier.sources.now c.in-Carrier.members.now c.args.part.start (end_of c.args.part) c.loop-index.index c.get.result.now o c.loop-index.images.items c.match-shown_by.images.items (c.args.images.now.items ++ down_within record_at 9 c.args.to c.args.b c.args.v c.args.part.start (end_of c.args.part)) c.get.ensures is put c.loop-index.invariant in
+    λ o is put. down_more record_at c.args.to c.in-Carrier.sources.now c.in-Carrier.members.now c.args.part.start (end_of c.args.part) c.loop-index.index c.get.result.now o c.loop-index.images.items c.match-shown_by.images.items (c.args.images.now.items ++ down_within record_at 9 c.args.to c.args.b c.args.v c.args.part.start (end_of c.args.part)) c.get.ensures is put c.loop-index.invariant in
     let told : shows c.shown_by.result = c.shown_by.ensures ∙ ap (λ n. shown c.in-Carrier.sources.now c.get.result.now (c.args.part.start - n) (end_of c.args.part - n)) start in
     elim c.match-shown_by.branch [
       | in-Some+in_ok-put_images-in-Carrier w ↦ more (Some w.in-Some.inner) (sym w.in-Some.is ∙ told) (ap (λ v. v.items) w.images-is ∙ w.in_ok-put_images-in-Carrier.ensures.images)
@@ -54,4 +54,4 @@ returns-then-end-at-clause-images g t c =
 pub returns-in-Base-clause-images : goal.returns-in-Base-clause-images
 returns-in-Base-clause-images g t c =
     down_none (g.L.Layers.record_at c.args.layers.now) (g.L.Layers.rank c.args.layers.now) c.placed-placed.ensures.layers c.args.to c.args.b c.args.v c.args.part.start (end_of c.args.part) c.requires.is c.args.images.now.items c.requires.there (sym c.if-eq.ensures)
-        (placed_base (g.L.Layers.record_at c.args.layers.now c.args.b c.args.v) c.requires.is c.in-Base.len c.requires.there c.in-Base.ensures.placed).0
+    (placed_base (g.L.Layers.record_at c.args.layers.now c.args.b c.args.v) c.requires.is c.in-Base.len c.requires.there c.in-Base.ensures.placed).0

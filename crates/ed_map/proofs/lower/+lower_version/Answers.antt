@@ -1,8 +1,5 @@
-use Rattle.std.proofs.Common.{◌≡◌, ℕ, ◌+◌, ◌-◌, ◌<◌, ◌≤◌, List, length, ap, sym, ◌∙◌, inl, inr, arith, Option, Some, None}
+use Rattle.std.proofs.Common.{◌≡◌, ap, sym, ◌∙◌, arith}
 use Rattle.std.specs.Prelude.{is_some}
-use Rattle.ed_layers.specs.Records.{Record}
-use Rattle.ed_layers.specs.Mapping.{lower_version}
-use Rattle.ed_map.specs.Layers.{IsLower}
 use Rattle.ed_map.proofs.ShownLemmas.{placed_members, placed_base, there_is}
 use Rattle.ed_map.proofs.LowerSteps.{lower_begins, lower_none, named_at, lower_same}
 use Rattle.ed_map.proofs.lower.+lower_version.Goals as goal

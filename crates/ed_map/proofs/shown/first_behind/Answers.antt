@@ -1,4 +1,4 @@
-use Rattle.std.proofs.Common.{◌≡◌, ◌+◌, ◌-◌, ◌<◌, ◌≤◌, ◌/◌, length, take, ℕ, ap, arith}
+use Rattle.std.proofs.Common.{◌≡◌, ◌+◌, ◌-◌, ◌<◌, ◌/◌, take, ℕ, ap, arith}
 use Rattle.ed_base.specs.Spans.{end_of}
 use Rattle.ed_layers.specs.Records.{members_len, placement}
 use Rattle.ed_map.proofs.MemberParts.{end_is}

@@ -1,8 +1,7 @@
-use Rattle.std.proofs.Common.{◌≡◌, ℕ, ◌+◌, ◌-◌, ◌<◌, ◌≤◌, ◌/◌, ◌^◌, length, Some, arith}
+use Rattle.std.proofs.Common.{◌≡◌, ℕ, ◌+◌, ◌-◌, ◌<◌, ◌/◌, ◌^◌, Some, arith}
 use Rattle.std.specs.Prelude.{slice_get, slice_index_or}
 use Rattle.std.proofs.lemmas.Option.{slice_get-get_or}
 use Rattle.ed_base.specs.declared.edit.Span.{Span}
-use Rattle.ed_base.specs.Spans.{end_of}
 use Rattle.ed_map.proofs.CutSteps.{apart_get, apart_ends}
 use Rattle.ed_map.proofs.up.first_ending_behind.Goals as goal
 

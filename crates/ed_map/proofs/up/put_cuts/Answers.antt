@@ -1,8 +1,7 @@
-use Rattle.std.proofs.Common.{◌≡◌, ◌++◌, ℕ, ◌-◌, ◌<◌, ◌≤◌, ◌^◌, List, length, Some, ap, arith}
+use Rattle.std.proofs.Common.{◌≡◌, ◌++◌, ◌-◌, ◌^◌, Some, ap, arith}
 use Rattle.std.specs.Prelude.{flat_map, slice_get, slice_index_or}
 use Rattle.std.proofs.lemmas.Option.{slice_get-get_or}
 use Rattle.ed_base.specs.declared.edit.Span.{Span}
-use Rattle.ed_base.specs.Spans.{end_of}
 use Rattle.ed_map.specs.Up.{cut_to}
 use Rattle.ed_map.proofs.CutSteps.{apart_get, cuts_skip, cuts_done}
 use Rattle.ed_map.proofs.up.put_cuts.Goals as goal

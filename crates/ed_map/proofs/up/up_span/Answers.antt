@@ -1,7 +1,6 @@
-use Rattle.std.proofs.Common.{◌≡◌, ℕ, List, ap, sym, subst, ◌∙◌, Some}
+use Rattle.std.proofs.Common.{◌≡◌, ◌∙◌}
 use Rattle.std.proofs.lemmas.Result.{IfOk-weaker}
 use Rattle.ed_layers.specs.Mapping.{up_span}
-use Rattle.ed_map.proofs.MemberParts.{get_below}
 use Rattle.ed_map.proofs.ShownLemmas.{there_is}
 use Rattle.ed_map.proofs.UpSteps.{found_images, images_are}
 use Rattle.ed_map.proofs.up.up_span.Goals as goal
