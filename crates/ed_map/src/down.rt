@@ -7,7 +7,7 @@ ghost use Rattle.ed_map.specs.Layers.{AreLayers, OneVersion};
 ghost use Rattle.ed_map.specs.Shown.{ReachesTo};
 
 use crate::layers::{Layers, Placed};
-use crate::shown::{first_behind, shown_by};
+use crate::shown::{first_member_behind, shown_by};
 use ed_base::{BufferNo, OutOfMemory, Span, SpanList, VersionNo};
 use ed_spans::join;
 use std::alloc::Global;
@@ -40,7 +40,7 @@ fn put_images<L: Layers>(
         Placed::Base { .. } => Ok(()),
         Placed::Carrier { members, sources } => {
             let end = part.start + part.len;
-            for index in first_behind(members, part.start)..members.count() {
+            for index in first_member_behind(members, part.start)..members.count() {
                 let at = members.place(index).start;
                 if end <= at {
                     return Ok(());

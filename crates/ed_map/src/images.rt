@@ -21,7 +21,8 @@ pub fn slot_of(known: &[Known], b: BufferNo, v: VersionNo) -> usize
 
 /// Whether the entry of a version stands there.
 pub fn is_at(known: &[Known], at: usize, b: BufferNo, v: VersionNo) -> bool
-    ensures { IsTrue result → StandsAt b v at known.now }
+    ensures told { IsTrue result → StandsAt b v at known.now }
+    ensures there { StandsAt b v at known.now → IsTrue result }
 {
     match known.get(at) {
         None => false,

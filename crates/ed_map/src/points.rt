@@ -8,7 +8,7 @@ ghost use Rattle.ed_map.specs.Up.{first_within};
 
 use crate::layers::{Layers, Placed};
 use crate::lower::lower_version;
-use crate::shown::{first_behind, shown_by};
+use crate::shown::{first_member_behind, shown_by};
 use ed_base::{Affinity, BufferNo, Span, VersionNo};
 
 /// The unit on the side that a point prefers, or on the other where the text has none there: its
@@ -47,7 +47,7 @@ fn place_of<L: Layers>(layers: &L, to: BufferNo, b: BufferNo, v: VersionNo, k: u
     match placed {
         Placed::Base { .. } => None,
         Placed::Carrier { members, sources } => {
-            let index = first_behind(members, k);
+            let index = first_member_behind(members, k);
             let at = members.place(index).start;
             let unit = Span { start: k, len: 1 };
             let inner = shown_by(sources, members.get(index), at, unit)?;
@@ -91,7 +91,7 @@ fn first_of<L: Layers>(
         Placed::Base { .. } => None,
         Placed::Carrier { members, sources } => {
             let end = part.start + part.len;
-            for index in first_behind(members, part.start)..members.count() {
+            for index in first_member_behind(members, part.start)..members.count() {
                 let at = members.place(index).start;
                 if end <= at {
                     return None;

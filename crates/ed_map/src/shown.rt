@@ -29,9 +29,9 @@ pub fn version_of(sources: &VersionList, source: BufferNo) -> Option<VersionNo>
     None
 }
 
-/// The first member that has a unit behind the place or at it, or else the number of members, by
-/// bisection over where they stand.
-pub fn first_behind(members: &Members, at: u32) -> u32
+/// The first member that ends behind the place, or else how many there are, by bisection over where
+/// they stand.
+pub fn first_member_behind(members: &Members, at: u32) -> u32
     requires { members_len members.now < 2 ^ 32 }
     ensures within { result ≤ length members.now }
     ensures before { members_len (take result members.now) ≤ at }

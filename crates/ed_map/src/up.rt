@@ -1,5 +1,5 @@
 //! Spans mapped up.
-ghost use Rattle.std.specs.Prelude.{◌≡◌, ℕ, ◌+◌, ◌-◌, ◌<◌, ◌≤◌, ◌^◌, ◌++◌, flat_map, length, slice_get, slice_index_or, IfOk, IsSome, OnOk, Some};
+ghost use Rattle.std.specs.Prelude.{◌≡◌, ℕ, ◌+◌, ◌-◌, ◌<◌, ◌≤◌, ◌^◌, ◌++◌, flat_map, length, slice_get, IfOk, IsSome, OnOk, Some};
 ghost use Rattle.ed_base.specs.declared.edit.Span.{Span};
 ghost use Rattle.ed_base.specs.Spans.{end_of};
 ghost use Rattle.ed_layers.specs.Mapping.{up_span};
@@ -10,13 +10,13 @@ ghost use Rattle.ed_spans.specs.SpanSets.{AreApartFrom, AreRisingFrom, joined};
 use crate::images::{Known, is_at, slot_of};
 use crate::layers::{Layers, Placed};
 use crate::shown::tracked;
-use ed_base::{BufferNo, Member, OutOfMemory, Span, SpanList, VersionNo};
+use ed_base::{BufferNo, OutOfMemory, Span, SpanList, VersionNo};
 use ed_spans::join_rising;
 use std::alloc::Global;
 
-/// The first of spans that lie apart that has a place behind this one or at it, or else their
-/// number, by bisection.
-fn first_ending_behind(spans: &[Span], at: u32) -> usize
+/// The first of these spans, which lie apart, that ends behind the place, or else how many there
+/// are, by bisection.
+fn first_span_behind(spans: &[Span], at: u32) -> usize
     requires { AreApartFrom 0 (2 ^ 32 - 1) spans.now }
     ensures within { result ≤ length spans.now }
     ensures before { (i : ℕ) (s : Span) → i < result → slice_get spans.now i ≡ Some s → end_of s ≤ at }
@@ -70,7 +70,7 @@ fn put_cuts(spans: &[Span], bounds: Span, at: u32, cuts: &mut Vec<Span>) -> Resu
     ensures { OnOk result (cuts.new.items ≡ cuts.old.items ++ flat_map (cut_to bounds at) spans.now) }
 {
     let end = bounds.start + bounds.len;
-    for index in first_ending_behind(spans, bounds.start)..spans.len() {
+    for index in first_span_behind(spans, bounds.start)..spans.len() {
         let span = spans[index];
         if end <= span.start {
             return Ok(());

@@ -14,7 +14,7 @@ use Rattle.ed_map.proofs.down.+put_images.Goals.{in-Some+in_ok-put_images-in-Car
 pub loop-index-init : goal.loop-index-init
 loop-index-init g t c =
     let p = placed_members (g.L.Layers.record_at c.args.layers.now c.args.b c.args.v) c.requires.is c.in-Carrier.members c.in-Carrier.sources c.requires.there c.in-Carrier.ensures.placed in
-    down_begins (g.L.Layers.record_at c.args.layers.now) (g.L.Layers.rank c.args.layers.now) c.placed-placed.ensures.layers c.args.to c.args.b c.args.v c.args.part.start (end_of c.args.part) c.first_behind-index.result c.requires.is c.in-Carrier.members.now c.in-Carrier.sources.now c.args.images.now.items c.requires.there (sym c.if-eq.ensures) p.0 p.1 c.first_behind-index.ensures.before
+    down_begins (g.L.Layers.record_at c.args.layers.now) (g.L.Layers.rank c.args.layers.now) c.placed-placed.ensures.layers c.args.to c.args.b c.args.v c.args.part.start (end_of c.args.part) c.first_member_behind-index.result c.requires.is c.in-Carrier.members.now c.in-Carrier.sources.now c.args.images.now.items c.requires.there (sym c.if-eq.ensures) p.0 p.1 c.first_member_behind-index.ensures.before
 
 pub shown_by-requires-clause-bounds : goal.shown_by-requires-clause-bounds
 shown_by-requires-clause-bounds g t c =

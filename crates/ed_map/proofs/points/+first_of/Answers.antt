@@ -16,7 +16,7 @@ returns-then-eq-clause-first g t c = c.place_in.ensures.place ∙ first_own (g.L
 pub loop-index-init : goal.loop-index-init
 loop-index-init g t c =
     let p = placed_members (g.L.Layers.record_at c.args.layers.now c.args.b c.args.v) c.requires.is c.in-Carrier.members c.in-Carrier.sources c.requires.there c.in-Carrier.ensures.placed in
-    first_begins (g.L.Layers.record_at c.args.layers.now) (g.L.Layers.rank c.args.layers.now) c.placed-placed.ensures.layers c.args.of c.args.unit c.args.b c.args.v c.args.part.start (end_of c.args.part) c.first_behind-index.result c.requires.is c.in-Carrier.members.now c.in-Carrier.sources.now c.requires.there (sym c.if-eq.ensures) p.0 p.1 c.first_behind-index.ensures.before
+    first_begins (g.L.Layers.record_at c.args.layers.now) (g.L.Layers.rank c.args.layers.now) c.placed-placed.ensures.layers c.args.of c.args.unit c.args.b c.args.v c.args.part.start (end_of c.args.part) c.first_member_behind-index.result c.requires.is c.in-Carrier.members.now c.in-Carrier.sources.now c.requires.there (sym c.if-eq.ensures) p.0 p.1 c.first_member_behind-index.ensures.before
 
 pub returns-then-end-at-clause-first : goal.returns-then-end-at-clause-first
 returns-then-end-at-clause-first g t c =

@@ -20,7 +20,7 @@ use Rattle.ed_map.proofs.up.+find_images.Goals.{in-Some+in_ok-at-in-Carrier+in_o
 pub returns-then-is_at : goal.returns-then-is_at
 returns-then-is_at g t c = record {
   sound = c.requires.known;
-  stands = subst (λ ks. StandsAt c.args.b c.args.v c.slot_of-found.result ks) c.deref-2.ensures.value (c.if-is_at.ensures refl);
+  stands = subst (λ ks. StandsAt c.args.b c.args.v c.slot_of-found.result ks) c.deref-2.ensures.value (c.if-is_at.ensures.told refl);
 }
 
 pub returns-then-eq : goal.returns-then-eq

@@ -7,7 +7,7 @@ use Rattle.ed_map.proofs.CutSteps.{apart_get, cuts_skip, cuts_done}
 use Rattle.ed_map.proofs.up.put_cuts.Goals as goal
 
 pub loop-index-init : goal.loop-index-init
-loop-index-init c = ap (λ xs. c.args.cuts.now.items ++ xs) (cuts_skip c.args.bounds c.args.at c.first_ending_behind-index.result c.args.spans.now c.first_ending_behind-index.ensures.before)
+loop-index-init c = ap (λ xs. c.args.cuts.now.items ++ xs) (cuts_skip c.args.bounds c.args.at c.first_span_behind-index.result c.args.spans.now c.first_span_behind-index.ensures.before)
 
 pub returns-then-end-span : goal.returns-then-end-span
 returns-then-end-span c =

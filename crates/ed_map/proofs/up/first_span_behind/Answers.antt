@@ -3,7 +3,7 @@ use Rattle.std.specs.Prelude.{slice_get, slice_index_or}
 use Rattle.std.proofs.lemmas.Option.{slice_get-get_or}
 use Rattle.ed_base.specs.declared.edit.Span.{Span}
 use Rattle.ed_map.proofs.CutSteps.{apart_get, apart_ends}
-use Rattle.ed_map.proofs.up.first_ending_behind.Goals as goal
+use Rattle.ed_map.proofs.up.first_span_behind.Goals as goal
 
 pub overflow_add-span : goal.overflow_add-span
 overflow_add-span c =

@@ -2,7 +2,7 @@ use Rattle.std.proofs.Common.{◌≡◌, ℕ, ◌-◌, ◌≤◌, ◌<◌, lengt
 use Rattle.std.specs.Prelude.{slice_get}
 use Rattle.ed_base.specs.declared.edit.Span.{Span}
 use Rattle.ed_base.specs.Spans.{end_of}
-use Rattle.ed_map.proofs.up.first_ending_behind.Given as goal
+use Rattle.ed_map.proofs.up.first_span_behind.Given as goal
 
 abbrev pub invariant-loop-low : goal.invariant-loop-low
 invariant-loop-low l = record {

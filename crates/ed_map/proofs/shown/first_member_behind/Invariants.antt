@@ -1,6 +1,6 @@
 use Rattle.std.proofs.Common.{◌-◌, ◌+◌, ◌≤◌, ◌<◌, length, take}
 use Rattle.ed_layers.specs.Records.{members_len}
-use Rattle.ed_map.proofs.shown.first_behind.Given as goal
+use Rattle.ed_map.proofs.shown.first_member_behind.Given as goal
 
 abbrev pub invariant-loop-low : goal.invariant-loop-low
 invariant-loop-low l = record {

@@ -2,7 +2,7 @@ use Rattle.std.proofs.Common.{◌≡◌, ◌+◌, ◌-◌, ◌<◌, ◌/◌, tak
 use Rattle.ed_base.specs.Spans.{end_of}
 use Rattle.ed_layers.specs.Records.{members_len, placement}
 use Rattle.ed_map.proofs.MemberParts.{end_is}
-use Rattle.ed_map.proofs.shown.first_behind.Goals as goal
+use Rattle.ed_map.proofs.shown.first_member_behind.Goals as goal
 
 pub loop-low-preserved-then-place-at : goal.loop-low-preserved-then-place-at
 loop-low-preserved-then-place-at c =
