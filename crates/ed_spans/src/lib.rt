@@ -3,7 +3,9 @@
 #![tactic(auto)]
 
 mod between;
+mod growing;
 mod joining;
 
 pub use between::gaps;
+pub use growing::put_behind;
 pub use joining::{join, join_rising};
