@@ -1,9 +1,9 @@
 -- One span more at the end of spans that lie apart.
-use Rattle.std.proofs.Common.{◌≡◌, ◌≢◌, ℕ, zero, suc, ◌+◌, ◌<◌, ◌≤◌, Bool, true, false, ◌||◌, List, [], ◌∷◌, ◌++◌, length, set, slice_index_or, inl, inr, refl, ap, ◌∙◌, arith}
+use Rattle.std.proofs.Common.{◌≡◌, ◌≢◌, ℕ, zero, suc, ◌+◌, ◌<◌, ◌≤◌, Bool, true, false, ◌||◌, List, [], ◌∷◌, ◌++◌, length, set, slice_index_or, All, inl, inr, refl, ap, ◌∙◌, arith}
 use Rattle.std.proofs.lemmas.Bool.{cases_lt}
 use Rattle.ed_base.specs.declared.edit.Span.{Span}
 use Rattle.ed_base.specs.Spans.{end_of, holds_place}
-use Rattle.ed_spans.specs.SpanSets.{in_spans, AreApartFrom}
+use Rattle.ed_spans.specs.SpanSets.{in_spans, AreApartFrom, EndsWithin}
 use Rattle.ed_spans.proofs.PlaceLemmas.{holds_from, holds_none, spans_append}
 
 pub apart_later : (p m n : ℕ) (ss : List Span) → m ≤ n → AreApartFrom p m ss → AreApartFrom p n ss
@@ -14,6 +14,9 @@ pub apart_at : (p n k : ℕ) (ss : List Span) (d : Span) → AreApartFrom p n ss
 apart_at p n k [] d apart below = absurd (omega arith)
 apart_at p n zero (s ∷ ss) d apart below = (apart.0, apart.2)
 apart_at p n (suc k) (s ∷ ss) d apart below = let rest = apart_at (end_of s + 1) n k ss d apart.3 (omega arith) in (omega (arith, apart.0, rest.0), rest.1)
+
+pub apart_within : (p n m : ℕ) (ss : List Span) → n ≤ m → AreApartFrom p n ss → All (EndsWithin m) ss
+apart_within p n m ss le apart k d below = omega (arith, le, (apart_at p n k ss d apart below).1)
 
 -- where none ends at the start of the new one
 pub push_apart : (p n : ℕ) (ss : List Span) (s d : Span) → AreApartFrom p n ss → n ≤ s.start → p ≤ s.start → 0 < s.len → ((k : ℕ) → length ss ≡ k + 1 → end_of (slice_index_or ss k d) ≢ s.start) → AreApartFrom p (end_of s) (ss ++ (s ∷ []))
