@@ -1,0 +1,3 @@
+pub mod AfterStep
+pub mod Pairs
+pub mod Kept

@@ -1,0 +1,8 @@
+//! Hidden text: sets of places of a source that an elision buffer doesn't show, kept as runs.
+#![tactic(auto)]
+
+mod hidden;
+mod parts;
+
+pub use hidden::Hidden;
+pub use parts::{parts_within, turned};
