@@ -14,7 +14,7 @@ use Rattle.ed_layers.specs.Hidden.{nearest}
 use Rattle.ed_elide.specs.AfterStep.{shown_pairs, shown_step}
 use Rattle.ed_elide.proofs.NearestLemmas.{one_if}
 use Rattle.ed_elide.proofs.PairLemmas.{AreFrom, at, none_at_from}
-use Rattle.ed_elide.proofs.RankLemmas.{rank, nearest_rank, length_filter}
+use Rattle.ed_elide.proofs.RankLemmas.{rank, nearest_rank, length_filter, rank_next}
 
 -- ---- where a place stands among those that pass
 
@@ -41,10 +41,6 @@ place_lost t p k a (suc m) fails = front (t a) refl (λ j. place_lost t p j (a +
     front false is rest = rw is (rest k)
 
 -- ---- the kept pairs, by new place
-
-rank_next : (t : ℕ → Bool) (b a : ℕ) → rank t b (suc a) ≡ rank t b a + one_if (t (b + a))
-rank_next t b zero = let e : b + 0 ≡ b = omega arith in rw e (omega arith)
-rank_next t b (suc a) = let e : b + suc a ≡ b + 1 + a = omega arith in rw e (omega (arith, rank_next t (b + 1) a))
 
 module _ (old new : ℕ → Bool) (n : ℕ) where
   -- the place of an old unit among the shown ones

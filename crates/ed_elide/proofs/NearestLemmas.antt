@@ -1,5 +1,5 @@
 -- The nearest place by the runs: what stands before, less what is hidden of it.
-use Rattle.std.proofs.Common.{◌≡◌, ℕ, zero, suc, ◌+◌, ◌<◌, ◌≤◌, Bool, true, false, not, List, [], ◌∷◌, map, take, inl, inr, refl, ap, ◌∙◌, arith}
+use Rattle.std.proofs.Common.{◌≡◌, ℕ, zero, suc, ◌+◌, ◌-◌, ◌<◌, ◌≤◌, Bool, true, false, not, List, [], ◌∷◌, length, slice_index_or, map, take, inl, inr, refl, ap, ◌∙◌, arith}
 use Rattle.std.proofs.lemmas.List.Sums.{sum_by-cons}
 use Rattle.std.specs.Prelude.{cond, count_by}
 use Rattle.std.specs.List.{range_with_len}
@@ -9,7 +9,11 @@ use Rattle.ed_base.specs.Spans.{end_of}
 use Rattle.ed_layers.specs.Hidden.{in_some, hidden_by, nearest}
 use Rattle.ed_spans.specs.SpanSets.{in_spans, AreApartFrom}
 use Rattle.ed_spans.proofs.PlaceLemmas.{holds_from, holds_none}
+use Rattle.std.specs.List.Sorted.{IsNonDecreasingBy}
 use Rattle.ed_spans.proofs.RunLemmas.{apart_before}
+use Rattle.ed_spans.proofs.EndLemmas.{apart_at}
+use Rattle.ed_spans.proofs.GapLemmas.{apart_earlier}
+use Rattle.ed_elide.specs.Kept.{shown_before}
 use Rattle.ed_spans.specs.SpanSets.{held_below}
 
 abbrev pub one_if : Bool → ℕ
@@ -44,7 +48,7 @@ held_next a n p (s ∷ ss) apart =
       ]
     ]
 
-held_zero : (ss : List Span) → held_below 0 ss ≡ 0
+pub held_zero : (ss : List Span) → held_below 0 ss ≡ 0
 held_zero [] = refl
 held_zero (s ∷ ss) = omega (arith, held_zero ss)
 
@@ -59,3 +63,48 @@ nearest_is n (suc p) ss apart within =
     add : (b : Bool) (x x' y y' : ℕ) → x ≡ x' + one_if (not b) → y ≡ y' + one_if b → x' + y' ≡ p → x + y ≡ suc p
     add true x x' y y' s t u = omega (arith, s, t, u)
     add false x x' y y' s t u = omega (arith, s, t, u)
+
+-- one place further
+pub nearest_next : (n p : ℕ) (ss : List Span) → p < n → nearest (hidden_by n ss) (p + 1) ≡ nearest (hidden_by n ss) p + one_if (not (in_spans ss p))
+nearest_next n p ss below =
+    let one : p + 1 ≡ suc p = omega arith in let e : 0 + p ≡ p = omega arith in
+    ap (nearest (hidden_by n ss)) one ∙ count_next (in_some ss) 0 n p below ∙ ap (λ k. nearest (hidden_by n ss) p + one_if (not (in_some ss k))) e
+
+-- ---- by the kept places
+
+pub apart_rises : (p n : ℕ) (ss : List Span) → AreApartFrom p n ss → IsNonDecreasingBy (λ s. s.start) ss
+apart_rises p n [] apart i j d le lt = absurd (omega arith)
+apart_rises p n (s ∷ ss) apart zero zero d le lt = omega arith
+apart_rises p n (s ∷ ss) apart zero (suc j) d le lt = omega (arith, (apart_at (end_of s + 1) n j ss d apart.3 (omega arith)).0)
+apart_rises p n (s ∷ ss) apart (suc i) zero d le lt = absurd (omega arith)
+apart_rises p n (s ∷ ss) apart (suc i) (suc j) d le lt = apart_rises (end_of s + 1) n ss apart.3 i j d (omega arith) (omega arith)
+
+-- where no span begins before q
+pub held_none_begun : (p n q : ℕ) (ss : List Span) (d : Span) → AreApartFrom p n ss → (0 < length ss → q ≤ (slice_index_or ss 0 d).start) → held_below q ss ≡ 0
+held_none_begun p n q [] d apart first = refl
+held_none_begun p n q (s ∷ ss) d apart first =
+    let none : q ≤ s.start = first (omega arith) in
+    omega (arith, none, held_none_begun (end_of s + 1) n q ss d apart.3 (λ some. omega (arith, none, (apart_at (end_of s + 1) n 0 ss d apart.3 some).0)))
+
+-- where the span with index k is the last that begins before q
+pub held_last : (p j n q k : ℕ) (ss : List Span) (d : Span) → p ≤ n → AreApartFrom p n ss → k < length ss → (slice_index_or ss k d).start < q → (k + 1 < length ss → q ≤ (slice_index_or ss (k + 1) d).start)
+    → slice_index_or (shown_before p j ss) k 0 + (q - end_of (slice_index_or ss k d)) + held_below q ss + p ≡ q + j
+held_last p j n q k [] d within apart below begun next = absurd (omega arith)
+held_last p j n q zero (s ∷ ss) d within apart below begun next =
+    let rest : held_below q ss ≡ 0 = held_none_begun (end_of s + 1) n q ss d apart.3 (λ some. next (omega (arith, some))) in
+    omega (arith, rest, apart.0, begun)
+held_last p j n q (suc k) (s ∷ ss) d within apart below begun next =
+    let one : suc k + 1 ≡ suc (k + 1) = omega arith in
+    let rest : slice_index_or (shown_before (end_of s) (j + (s.start - p)) ss) k 0 + (q - end_of (slice_index_or ss k d)) + held_below q ss + end_of s ≡ q + (j + (s.start - p)) =
+    held_last (end_of s) (j + (s.start - p)) n q k ss d apart.2 (apart_earlier (end_of s) (end_of s + 1) n ss (omega arith) apart.3) (omega arith) begun (λ more. omega (arith, next (omega (arith, more)), ap (λ i. (slice_index_or (s ∷ ss) i d).start) one)) in
+    let after : end_of s + 1 ≤ (slice_index_or ss k d).start = (apart_at (end_of s + 1) n k ss d apart.3 (omega arith)).0 in
+    omega (arith, rest, after, begun, apart.0)
+
+pub length_before : (p j : ℕ) (ss : List Span) → length (shown_before p j ss) ≡ length ss
+length_before p j [] = refl
+length_before p j (s ∷ ss) = rw (length_before (end_of s) (j + (s.start - p)) ss) refl
+
+pub nearest_last : (n q k : ℕ) (ss : List Span) (places : List ℕ) (d : Span) → AreApartFrom 0 n ss → q ≤ n → places ≡ shown_before 0 0 ss → k < length ss → (slice_index_or ss k d).start < q → (k + 1 < length ss → q ≤ (slice_index_or ss (k + 1) d).start)
+    → slice_index_or places k 0 + (q - end_of (slice_index_or ss k d)) ≡ nearest (hidden_by n ss) q
+nearest_last n q k ss places d apart within kept below begun next =
+    omega (arith, held_last 0 0 n q k ss d (omega arith) apart below begun next, nearest_is n q ss apart within, ap (λ ps. slice_index_or ps k 0) kept)

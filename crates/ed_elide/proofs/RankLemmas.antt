@@ -5,7 +5,7 @@ use Rattle.std.specs.Prelude.{cond, count_by, nat_eq}
 use Rattle.std.specs.List.{position_or_len}
 use Rattle.std.proofs.lemmas.Bool.{eq-eqb, ne_eqb}
 use Rattle.std.specs.List.{range_with_len}
-use Rattle.ed_layers.specs.Records.{is_shown}
+use Rattle.ed_layers.specs.Records.{is_hidden, is_shown}
 use Rattle.ed_layers.specs.Hidden.{nearest}
 use Rattle.ed_elide.proofs.NearestLemmas.{one_if}
 
@@ -54,3 +54,40 @@ rank_is_place t p a (suc m) (suc d) is less passes = front (t a) refl (rank_is_p
     front : (b : Bool) → t a ≡ b → position_or_len (nat_eq p) (filter t (range_with_len (a + 1) m)) ≡ rank t (a + 1) d → position_or_len (nat_eq p) (filter t (a ∷ range_with_len (a + 1) m)) ≡ one_if (t a) + rank t (a + 1) d
     front true is_one rest = rw (is_one, ne_eqb p a (λ e. omega (arith, is, e))) (omega (arith, rest))
     front false not_so rest = rw not_so (omega (arith, rest))
+
+pub rank_next : (t : ℕ → Bool) (b a : ℕ) → rank t b (suc a) ≡ rank t b a + one_if (t (b + a))
+rank_next t b zero = let e : b + 0 ≡ b = omega arith in rw e (omega arith)
+rank_next t b (suc a) = let e : b + suc a ≡ b + 1 + a = omega arith in rw e (omega (arith, rank_next t (b + 1) a))
+
+pub nearest_more : (flags : List Bool) (p : ℕ) → p < length flags → nearest flags (p + 1) ≡ nearest flags p + one_if (is_shown flags p)
+nearest_more flags p below =
+    let one : p + 1 ≡ suc p = omega arith in let z : 0 + p ≡ p = omega arith in
+    nearest_rank flags (p + 1) (omega (arith, below)) ∙ ap (rank (is_shown flags) 0) one ∙ rank_next (is_shown flags) 0 p ∙ ap (λ x. rank (is_shown flags) 0 p + one_if (is_shown flags x)) z
+    ∙ ap (λ x. x + one_if (is_shown flags p)) (sym (nearest_rank flags p (omega (arith, below))))
+
+pub shown_not : (flags : List Bool) (p : ℕ) → p < length flags → is_shown flags p ≡ not (is_hidden flags p)
+shown_not [] p below = absurd (omega arith)
+shown_not (b ∷ flags) zero below = refl
+shown_not (b ∷ flags) (suc p) below = shown_not flags p (omega arith)
+
+-- a place is hidden where no unit is shown up to the next
+pub hidden_told : (flags : List Bool) (p a b : ℕ) → p < length flags → a ≡ nearest flags p → b ≡ nearest flags (p + 1) → nat_eq a b ≡ is_hidden flags p
+hidden_told flags p a b below is is' = front (is_hidden flags p) refl
+  where
+    more : b ≡ a + one_if (not (is_hidden flags p))
+    more = is' ∙ nearest_more flags p below ∙ ap (λ x. nearest flags p + one_if x) (shown_not flags p below) ∙ ap (λ x. x + one_if (not (is_hidden flags p))) (sym is)
+
+    front : (h : Bool) → is_hidden flags p ≡ h → nat_eq a b ≡ is_hidden flags p
+    front true hid = let k : one_if (not (is_hidden flags p)) ≡ 0 = ap (λ x. one_if (not x)) hid in eq-eqb a b (omega (arith, more, k)) ∙ sym hid
+    front false hid = let k : one_if (not (is_hidden flags p)) ≡ 1 = ap (λ x. one_if (not x)) hid in ne_eqb a b (λ e. omega (arith, more, k, e)) ∙ sym hid
+
+rank_within : (t : ℕ → Bool) (a k : ℕ) → rank t a k ≤ k
+rank_within t a zero = omega arith
+rank_within t a (suc k) = front (t a) refl (rank_within t (a + 1) k)
+  where
+    front : (b : Bool) → t a ≡ b → rank t (a + 1) k ≤ k → one_if (t a) + rank t (a + 1) k ≤ suc k
+    front true is rest = rw is (omega (arith, rest))
+    front false is rest = rw is (omega (arith, rest))
+
+pub nearest_within : (flags : List Bool) (p : ℕ) → p ≤ length flags → nearest flags p ≤ p
+nearest_within flags p within = omega (arith, nearest_rank flags p within, rank_within (is_shown flags) 0 p)

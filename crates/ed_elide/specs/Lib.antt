@@ -1,3 +1,4 @@
 pub mod AfterStep
 pub mod Pairs
 pub mod Kept
+pub mod Steps

@@ -1,8 +1,8 @@
 //! Hidden text of a source, as runs.
-ghost use Rattle.std.specs.Prelude.{◌≡◌, [], length, All, IfOk};
+ghost use Rattle.std.specs.Prelude.{◌≡◌, ◌↔◌, ◌<◌, ◌≤◌, [], length, All, IfOk, IsTrue};
 ghost use Rattle.ed_base.specs.Runs.{runs};
 ghost use Rattle.ed_layers.specs.Records.{is_hidden};
-ghost use Rattle.ed_layers.specs.Hidden.{elided, hidden_by};
+ghost use Rattle.ed_layers.specs.Hidden.{elided, hidden_by, nearest};
 ghost use Rattle.ed_spans.specs.SpanSets.{AreApartFrom, EndsWithin};
 ghost use Rattle.ed_elide.specs.Kept.{shown_before};
 
@@ -121,5 +121,46 @@ impl Hidden {
         ensures apart { AreApartFrom 0 (length self.now) result.now }
     {
         self.spans.as_slice()
+    }
+
+    /// Whether both sets are of one length and hold the same places, which is where their runs are
+    /// equal.
+    pub fn is_same(&self, other: &Hidden) -> bool
+        ensures { IsTrue result ↔ (self.now ≡ other.now) }
+    {
+        self.len == other.len && self.spans.as_slice() == other.spans.as_slice()
+    }
+
+    /// The nearest shown place of a place of the source: the number of shown units before it. It is
+    /// found in O(log r) of r runs.
+    pub fn nearest(&self, place: u32) -> u32
+        requires { place ≤ length self.now }
+        ensures { result ≡ nearest self.now place }
+    {
+        let spans = self.spans.as_slice();
+        let begun = spans.partition_point(|span| span.start < place);
+        if begun == 0 {
+            return place;
+        }
+        let last = spans[begun - 1];
+        let places = self.places.as_slice();
+        places[begun - 1] + place.saturating_sub(last.start + last.len)
+    }
+
+    /// The number of shown units.
+    pub fn shown_len(&self) -> u32
+        ensures { result ≡ nearest self.now (length self.now) }
+    {
+        self.nearest(self.len())
+    }
+
+    /// Whether the place is hidden.
+    pub fn is_hidden(&self, place: u32) -> bool
+        requires { place < length self.now }
+        ensures { result ≡ is_hidden self.now place }
+    {
+        // The length is looked at for that it is below 2^32.
+        let _len = self.len();
+        self.nearest(place) == self.nearest(place + 1)
     }
 }

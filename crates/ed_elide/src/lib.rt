@@ -3,6 +3,8 @@
 
 mod hidden;
 mod parts;
+mod shown;
+mod steps;
 
 pub use hidden::Hidden;
 pub use parts::{parts_within, turned};
