@@ -1,11 +1,16 @@
 -- The step of an elision buffer: the kept pairs of its source of which both places are shown, each told by the number of shown places before it.
-use Rattle.std.proofs.Common.{◌≡◌, ℕ, zero, suc, ◌+◌, ◌<◌, ◌≤◌, Bool, true, false, true≢false, ◌&&◌, List, [], ◌∷◌, length, map, filter, nat_eq, find, position, Option, Some, None, option_map, option_and_then, inl, inr, refl, sym, ap, subst, ◌∙◌, arith}
+use Rattle.std.proofs.Common.{◌≡◌, ◌++◌, MatchOption, ℕ, zero, suc, ◌+◌, ◌-◌, ◌<◌, ◌≤◌, Bool, true, false, true≢false, ◌&&◌, List, [], ◌∷◌, length, map, filter, nat_eq, find, position, Option, Some, None, option_map, option_and_then, sum_by, inl, inr, refl, sym, ap, subst, ◌∙◌, arith}
 use Rattle.std.specs.List.{range_with_len, position_from}
 use Rattle.std.specs.Option.{option_map_or}
 use Rattle.std.proofs.lemmas.Bool.{cases_lt, eq-eqb, ne_eqb}
 use Rattle.std.proofs.lemmas.Iterator.Adapters.{position_from-zero}
 use Rattle.ed_base.specs.Step.{Step, pairs_from}
-use Rattle.ed_kept.specs.Kept.{ArePairsRising}
+use Rattle.std.proofs.lemmas.List.{append-nil}
+use Rattle.ed_base.specs.declared.edit.Change.{Change}
+use Rattle.ed_base.specs.ChangeList.{ChangeList, IsNormal, step, new_len}
+use Rattle.ed_kept.specs.Kept.{ArePairsRising, pairs_of, run_pairs, runs_from}
+use Rattle.ed_kept.proofs.RunLemmas.{step_kept, step_len}
+use Rattle.ed_elide.specs.Steps.{Steps}
 use Rattle.ed_kept.proofs.Rising.{rising_within}
 use Rattle.ed_layers.specs.Records.{elision, is_shown}
 use Rattle.ed_layers.specs.SourceStep.{SourceStep, kept_from}
@@ -184,3 +189,32 @@ carrier_shown old new b v w steps s len len' rising same = cc (olds, news, kept)
         ap (pairs_from 0) (origins_are b (came_from steps b) steps (filter (is_shown old) (range_with_len 0 (length old))) (filter (is_shown new) (range_with_len 0 (length new))) (λ q. refl))
         ∙ pairs_shown (is_shown old) (is_shown new) (length old) (came_from steps b) 0 0 (length new) 0 s.kept (let z : length new ≡ 0 + length new = omega arith in subst (λ m. ArePairsRising 0 0 (length old) m s.kept) z rising) (λ q from below. same q (omega (arith, below))) refl
         ∙ both_are_pairs old new (length old) (length new) 0 0 s.kept refl refl rising
+
+-- ---- where the source steps by changes, or stays
+
+run_pairs_found : (n q : ℕ) → q < n → option_map (λ (pair : ℕ × ℕ). pair.0) (find (at q) (run_pairs 0 0 n)) ≡ Some q
+run_pairs_found n q below = from 0 n q (omega arith) (omega (arith, below))
+  where
+    from : (a k q : ℕ) → a ≤ q → q < a + k → option_map (λ (pair : ℕ × ℕ). pair.0) (find (at q) (run_pairs a a k)) ≡ Some q
+    from a zero q le less = absurd (omega arith)
+    from a (suc k) q le less = elim (cases_lt a q) [
+      | inl later ↦ rw (ne_eqb a q (λ e. omega (arith, later, e))) (from (a + 1) k q (omega (arith, later)) (omega (arith, less)))
+      | inr here ↦ (let e : a ≡ q = omega (arith, le, here) in rw (eq-eqb a q e) (ap Some e))
+    ]
+
+stays_kept : (c : ChangeList) → IsNormal c → c.changes ≡ [] → (step c).kept ≡ run_pairs 0 0 c.old_len
+stays_kept c normal none =
+    let e : c.old_len - 0 ≡ c.old_len = omega arith in
+    step_kept c normal ∙ ap (λ cs. pairs_of (runs_from 0 0 c.old_len cs)) none ∙ append-nil (run_pairs 0 0 (c.old_len - 0)) ∙ ap (run_pairs 0 0) e
+
+-- The step of an elision buffer across the changes of its source.
+pub steps_shown : (old new : List Bool) (b v w : ℕ) (steps : ℕ → Option SourceStep) (c : ChangeList) → IsNormal c → c.old_len ≡ length old → new_len c ≡ length new → ArePairsRising 0 0 (length old) (length new) (step c).kept → Steps steps b c
+    → carrier_step all_stay steps (elision old b v) (elision new b w) ≡ shown_step old new (step c)
+steps_shown old new b v w steps c normal len len' rising is = carrier_shown old new b v w steps (step c) len (step_len c normal ∙ len') rising (same (steps b) refl is)
+  where
+    long : c.changes ≡ [] → length new ≡ c.old_len
+    long none = sym len' ∙ omega (arith, ap (λ cs. sum_by (λ (x : Change). length x.text) cs) none, ap (λ cs. sum_by (λ (x : Change). x.old_len) cs) none)
+
+    same : (o : Option SourceStep) → steps b ≡ o → MatchOption o (c.changes ≡ []) (λ s. s.step ≡ step c) → (q : ℕ) → q < length new → came_from steps b q ≡ option_map (λ (pair : ℕ × ℕ). pair.0) (find (at q) (step c).kept)
+    same None is none q below = rw (is, stays_kept c normal none) (sym (run_pairs_found c.old_len q (omega (arith, below, long none))))
+    same (Some s) is by q below = rw is (ap (λ (t : Step). kept_from t q) by)

@@ -7,4 +7,6 @@ pub mod RankLemmas
 pub mod PartLemmas
 pub mod CarrierPairs
 pub mod ShownPairs
+pub mod PutLemmas
+pub mod AdvanceLemmas
 mod Rows

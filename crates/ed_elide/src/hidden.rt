@@ -54,7 +54,7 @@ impl Hidden {
     /// # Errors
     ///
     /// Memory was refused.
-    fn kept(alloc: Global, len: u32, spans: Vec<Span>) -> Result<Hidden, OutOfMemory>
+    pub(crate) fn kept(alloc: Global, len: u32, spans: Vec<Span>) -> Result<Hidden, OutOfMemory>
         requires { AreApartFrom 0 len spans.items }
         ensures { IfOk result (λ h. h ≡ hidden_by len spans.items) }
     {
