@@ -1,8 +1,7 @@
 -- The places that stay hidden and those put in among hidden ones are the hidden places after a step.
-use Rattle.std.proofs.Common.{◌≡◌, ℕ, zero, suc, ◌+◌, ◌-◌, ◌<◌, ◌≤◌, Bool, true, false, not, ◌&&◌, ◌||◌, if◌then◌else◌, List, [], ◌∷◌, ◌++◌, All, length, map, min, slice_get, nat_eq, nat_le, nat_lt, find, inl, inr, refl, sym, ap, subst, ◌∙◌, arith}
+use Rattle.std.proofs.Common.{◌≡◌, ℕ, zero, suc, ◌+◌, ◌-◌, ◌<◌, ◌≤◌, Bool, true, false, not, ◌&&◌, ◌||◌, List, [], ◌∷◌, ◌++◌, All, length, map, min, slice_get, inl, inr, refl, sym, ap, subst, ◌∙◌, arith}
 use Rattle.std.specs.List.{list_any, range_with_len}
 use Rattle.std.specs.Prelude.{unwrap_or}
-use Rattle.std.specs.Option.{option_map_or}
 use Rattle.ed_kept.proofs.RunLemmas.{step_rising}
 use Rattle.std.proofs.lemmas.Bool.{cases_lt, lt-ltb, le-ltb, eq-eqb, ne_eqb}
 use Rattle.ed_base.specs.declared.edit.Change.{Change}
@@ -18,8 +17,8 @@ use Rattle.ed_layers.specs.Hidden.{among_hidden, flags_after, hidden_by, in_some
 use Rattle.ed_layers.specs.SourceStep.{SourceStep, names, trail_at}
 use Rattle.ed_pieces.specs.declared.trails.TrailRun.{TrailRun}
 use Rattle.ed_pieces.specs.Trails.{AreRising, trail_in, trails_in}
-use Rattle.ed_spans.specs.SpanSets.{in_spans, before, AreApartFrom, EndsWithin}
-use Rattle.ed_spans.proofs.PlaceLemmas.{holds_from, holds_none, holds_parts, any_places}
+use Rattle.ed_spans.specs.SpanSets.{in_spans, before, EndsWithin}
+use Rattle.ed_spans.proofs.PlaceLemmas.{holds_from, holds_none, holds_parts}
 use Rattle.ed_elide.specs.AfterStep.{after_changes, left_of, right_of, new_spans, own_spans, put_in, put_spans, stay}
 use Rattle.ed_elide.specs.Pairs.{placed_in}
 use Rattle.ed_elide.proofs.AfterLemmas.{flags_after_is, map_split, map_shift}
@@ -194,8 +193,8 @@ module _ (flags : List Bool) where
         ∙ map_split (hidden_next i j (c ∷ cs)) j k (l + (m - j'))
         ∙ ap (λ u. u ++ map (hidden_next i j (c ∷ cs)) (range_with_len (j + k) (l + (m - j')))) stay_part
         ∙ ap (λ u. stay me s flags n i k ++ u) (map_split (hidden_next i j (c ∷ cs)) (j + k) l (m - j')
-          ∙ ap (λ u. u ++ map (hidden_next i j (c ∷ cs)) (range_with_len (j + k + l) (m - j'))) put_part
-          ∙ ap (λ u. put_in me s flags n among (j + k) l ++ u) (rest_part m ∙ after_is i' j' (i' + 1) cs (omega arith) normal.3))
+        ∙ ap (λ u. u ++ map (hidden_next i j (c ∷ cs)) (range_with_len (j + k + l) (m - j'))) put_part
+        ∙ ap (λ u. put_in me s flags n among (j + k) l ++ u) (rest_part m ∙ after_is i' j' (i' + 1) cs (omega arith) normal.3))
       where
         among : Bool
         among = among_hidden flags (left_of c.start) (right_of n (c.start + c.old_len))
@@ -227,7 +226,7 @@ module _ (flags : List Bool) where
         stay_at d less =
             let kept : list_any (test (j + d)) (kept_from i j n (c ∷ cs)) ≡ is_hidden flags (i + d) =
             test_append (run i j (c.start - i)) (kept_from (c.start + c.old_len) (j + (c.start - i) + length c.text) n cs) (j + d)
-              ∙ rw (test_run i j (c.start - i) d (j + d) (i + d) less refl refl, test_from (j + d) (j + (c.start - i) + length c.text) (kept_from (c.start + c.old_len) (j + (c.start - i) + length c.text) n cs) (omega (arith, less)) (kept_are_from (c.start + c.old_len) (j + (c.start - i) + length c.text) n (j + (c.start - i) + length c.text) cs (omega arith))) (or_false (is_hidden flags (i + d))) in
+            ∙ rw (test_run i j (c.start - i) d (j + d) (i + d) less refl refl, test_from (j + d) (j + (c.start - i) + length c.text) (kept_from (c.start + c.old_len) (j + (c.start - i) + length c.text) n cs) (omega (arith, less)) (kept_are_from (c.start + c.old_len) (j + (c.start - i) + length c.text) n (j + (c.start - i) + length c.text) cs (omega arith))) (or_false (is_hidden flags (i + d))) in
             let none : in_spans (put_spans flags n i j (c ∷ cs)) (j + d) ≡ false =
             puts_are (j + d) ∙ rw (holds_none (span_between (j + (c.start - i)) (j + (c.start - i) + length c.text)) (j + d) (λ a b. omega (arith, a, less)), rest_none (j + d) (omega (arith, less))) (ap (λ x. x || false) (and_false among)) in
             ap (λ x. list_any (test (j + d)) (kept_from i j n (c ∷ cs)) || (x && not (names me (trail_at s (j + d))))) none ∙ ap (λ x. x || false) kept ∙ or_false (is_hidden flags (i + d))
@@ -239,7 +238,7 @@ module _ (flags : List Bool) where
         put_at q from less =
             let kept : list_any (test q) (kept_from i j n (c ∷ cs)) ≡ false =
             test_append (run i j (c.start - i)) (kept_from (c.start + c.old_len) (j + (c.start - i) + length c.text) n cs) q
-              ∙ rw (test_below q (j + (c.start - i)) (run i j (c.start - i)) from (run_below i j (c.start - i)), test_from q (j + (c.start - i) + length c.text) (kept_from (c.start + c.old_len) (j + (c.start - i) + length c.text) n cs) less (kept_are_from (c.start + c.old_len) (j + (c.start - i) + length c.text) n (j + (c.start - i) + length c.text) cs (omega arith))) refl in
+            ∙ rw (test_below q (j + (c.start - i)) (run i j (c.start - i)) from (run_below i j (c.start - i)), test_from q (j + (c.start - i) + length c.text) (kept_from (c.start + c.old_len) (j + (c.start - i) + length c.text) n cs) less (kept_are_from (c.start + c.old_len) (j + (c.start - i) + length c.text) n (j + (c.start - i) + length c.text) cs (omega arith))) refl in
             let put : in_spans (put_spans flags n i j (c ∷ cs)) q ≡ among =
             puts_are q ∙ rw (holds_from (span_between (j + (c.start - i)) (j + (c.start - i) + length c.text)) q from (omega (arith, less)), rest_none q (omega (arith, less))) (or_false (among && true) ∙ and_true among) in
             ap (λ x. list_any (test q) (kept_from i j n (c ∷ cs)) || (x && not (names me (trail_at s q)))) put ∙ ap (λ x. x || (among && not (names me (trail_at s q)))) kept
@@ -251,7 +250,7 @@ module _ (flags : List Bool) where
         rest_at q from =
             let kept : list_any (test q) (kept_from i j n (c ∷ cs)) ≡ list_any (test q) (kept_from (c.start + c.old_len) (j + (c.start - i) + length c.text) n cs) =
             test_append (run i j (c.start - i)) (kept_from (c.start + c.old_len) (j + (c.start - i) + length c.text) n cs) q
-              ∙ rw (test_below q (j + (c.start - i)) (run i j (c.start - i)) (omega (arith, from)) (run_below i j (c.start - i))) refl in
+            ∙ rw (test_below q (j + (c.start - i)) (run i j (c.start - i)) (omega (arith, from)) (run_below i j (c.start - i))) refl in
             let put : in_spans (put_spans flags n i j (c ∷ cs)) q ≡ in_spans (put_spans flags n (c.start + c.old_len) (j + (c.start - i) + length c.text) cs) q =
             puts_are q ∙ rw (holds_none (span_between (j + (c.start - i)) (j + (c.start - i) + length c.text)) q (λ a b. omega (arith, b, from))) (ap (λ x. x || in_spans (put_spans flags n (c.start + c.old_len) (j + (c.start - i) + length c.text) cs) q) (and_false among)) in
             ap (λ x. x || (in_spans (put_spans flags n i j (c ∷ cs)) q && not (names me (trail_at s q)))) kept ∙ ap (λ x. list_any (test q) (kept_from (c.start + c.old_len) (j + (c.start - i) + length c.text) n cs) || (x && not (names me (trail_at s q)))) put

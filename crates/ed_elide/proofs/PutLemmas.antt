@@ -5,7 +5,6 @@ use Rattle.std.proofs.lemmas.List.{append-nil, drop_more, drop_all}
 use Rattle.ed_base.specs.declared.edit.Change.{Change}
 use Rattle.ed_base.specs.declared.edit.Span.{Span}
 use Rattle.ed_base.specs.ChangeList.{ChangeList, AreNormalFrom, IsNormal, new_len}
-use Rattle.ed_base.specs.Spans.{end_of}
 use Rattle.ed_base.proofs.NormalLists.{normal_earlier, end_from, new_len_is_end, reached_below_end}
 use Rattle.ed_layers.specs.Hidden.{among_hidden}
 use Rattle.ed_spans.specs.SpanSets.{AreApartFrom, before}
@@ -82,8 +81,12 @@ puts_apart flags n i j p (c ∷ cs) le normal =
     front true so rest later = elim (cases_lt (j + (c.start - i)) (j + (c.start - i) + length c.text)) [
       | inl some ↦ (
           let e : j + (c.start - i) + (j + (c.start - i) + length c.text - (j + (c.start - i))) ≡ j + (c.start - i) + length c.text = omega arith in
-          rw (so, lt-ltb (j + (c.start - i)) (j + (c.start - i) + length c.text) some) (omega (arith, normal.0, le), omega (arith, some), omega (arith, reached_below_end (c.start + c.old_len) (j + (c.start - i) + length c.text) n cs),
-            subst (λ k. AreApartFrom (k + 1) (end_from (c.start + c.old_len) (j + (c.start - i) + length c.text) n cs) (put_spans flags n (c.start + c.old_len) (j + (c.start - i) + length c.text) cs)) (sym e) rest))
+          rw (so, lt-ltb (j + (c.start - i)) (j + (c.start - i) + length c.text) some) (
+            omega (arith, normal.0, le),
+            omega (arith, some),
+            omega (arith, reached_below_end (c.start + c.old_len) (j + (c.start - i) + length c.text) n cs),
+            subst (λ k. AreApartFrom (k + 1) (end_from (c.start + c.old_len) (j + (c.start - i) + length c.text) n cs) (put_spans flags n (c.start + c.old_len) (j + (c.start - i) + length c.text) cs)) (sym e) rest,
+          ))
       | inr none ↦ rw (so, le-ltb (j + (c.start - i)) (j + (c.start - i) + length c.text) none) later
     ]
     front false so rest later = rw so later

@@ -1,15 +1,13 @@
 -- The shown runs are what lies between the hidden ones: how many, their members, their texts.
-use Rattle.std.proofs.Common.{◌≡◌, ℕ, zero, suc, ◌+◌, ◌-◌, ◌<◌, ◌≤◌, ◌⊎◌, Bool, true, false, not, ◌&&◌, ◌||◌, List, [], ◌∷◌, ◌++◌, length, map, flat_map, sum_by, slice_range, slice_index_or, nat_eq, nat_lt, find, Option, Some, None, option_map, min, inl, inr, refl, sym, ap, ◌∙◌, arith}
+use Rattle.std.proofs.Common.{◌≡◌, ℕ, suc, ◌+◌, ◌-◌, ◌<◌, ◌≤◌, ◌⊎◌, Bool, true, false, ◌&&◌, List, [], ◌∷◌, ◌++◌, length, map, flat_map, sum_by, slice_range, slice_index_or, nat_eq, nat_lt, find, None, inl, inr, refl, sym, ap, ◌∙◌, arith}
 use Rattle.std.specs.List.{enumerate_from}
 use Rattle.std.proofs.lemmas.Bool.{cases_lt, lt-ltb, le-ltb, le-leb}
 use Rattle.std.proofs.lemmas.List.Sums.{sum_by-cons}
 use Rattle.ed_base.specs.declared.edit.Span.{Span}
-use Rattle.ed_base.specs.declared.piece.Member.{Member}
-use Rattle.ed_base.specs.declared.refusal.Refusal.{Refusal}
 use Rattle.ed_base.specs.Runs.{runs}
 use Rattle.ed_base.specs.Spans.{end_of}
 use Rattle.ed_layers.specs.Records.{is_shown, members_of, elision, tracked}
-use Rattle.ed_layers.specs.Order.{conflict, fails_to_cover, first_conflict, mode_fault, overlap_fault}
+use Rattle.ed_layers.specs.Order.{conflict, fails_to_cover, first_conflict}
 use Rattle.ed_layers.specs.Hidden.{hidden_by}
 use Rattle.ed_layers.specs.Texts.{text_over}
 use Rattle.ed_members.specs.Faults.{first_fault}

@@ -100,7 +100,7 @@ twice_rising old new n m a b before behind kept apart apart' is is' rising =
     let first : ArePairsRising 0 0 (held_below n before) m (placed_in 0 before kept) = subst (λ x. ArePairsRising x 0 (held_below n before) m (placed_in 0 before kept)) (held_zero before) (placed_rising 0 n 0 0 n m before kept apart rising) in
     let second : ArePairsRising 0 0 (held_below m behind) (held_below n before) (placed_in 0 behind (turned (placed_in 0 before kept))) =
     subst (λ x. ArePairsRising x 0 (held_below m behind) (held_below n before) (placed_in 0 behind (turned (placed_in 0 before kept)))) (held_zero behind)
-      (placed_rising 0 m 0 0 m (held_below n before) behind (turned (placed_in 0 before kept)) apart' (turned_rising 0 0 (held_below n before) m (placed_in 0 before kept) first)) in
+    (placed_rising 0 m 0 0 m (held_below n before) behind (turned (placed_in 0 before kept)) apart' (turned_rising 0 0 (held_below n before) m (placed_in 0 before kept) first)) in
     rw (is, is') (turned_rising 0 0 (held_below m behind) (held_below n before) (placed_in 0 behind (turned (placed_in 0 before kept))) second)
 
 -- One restriction: no place goes up.

@@ -4,7 +4,7 @@ use Rattle.std.proofs.lemmas.List.{append-nil, drop_more, drop_all}
 use Rattle.ed_base.specs.declared.edit.Change.{Change}
 use Rattle.ed_base.specs.ChangeList.{ChangeList, AreNormalFrom, IsNormal, step, new_len}
 use Rattle.ed_base.proofs.NormalLists.{normal_earlier, end_from, new_len_is_end, reached_below_end}
-use Rattle.ed_base.proofs.NormalSteps.{run, kept_from, normal_kept}
+use Rattle.ed_base.proofs.NormalSteps.{run, kept_from, normal_kept, normal_new_len}
 use Rattle.ed_kept.specs.declared.kept.KeptRun.{KeptRun}
 use Rattle.ed_kept.specs.Kept.{ArePairsRising, AreRunsRising, kept_run, pairs_of, run_pairs, runs_from, runs_of}
 use Rattle.ed_kept.proofs.Rising.{rising_run, rising_join, rising_weak}
@@ -46,6 +46,12 @@ runs_pairs i j n m (x ∷ rs) r =
 
 pub all_runs_rise : (c : ChangeList) → IsNormal c → AreRunsRising 0 0 c.old_len (new_len c) (runs_of c)
 all_runs_rise c normal = subst (λ m. AreRunsRising 0 0 c.old_len m (runs_of c)) (new_len_is_end c.old_len c.changes normal.changes) (runs_rise 0 0 c.old_len c.changes (omega arith) normal.changes)
+
+pub step_len : (c : ChangeList) → IsNormal c → (step c).new_len ≡ new_len c
+step_len c normal = normal_new_len c normal.changes
+
+pub step_rising : (c : ChangeList) → IsNormal c → ArePairsRising 0 0 c.old_len (new_len c) (step c).kept
+step_rising c normal = rw (step_kept c normal) (runs_pairs 0 0 c.old_len (new_len c) (runs_of c) (all_runs_rise c normal))
 
 -- ---- one pass over the changes
 

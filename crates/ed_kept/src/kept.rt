@@ -1,6 +1,6 @@
 //! The runs of units that a change list keeps.
-ghost use Rattle.std.specs.Prelude.{◌≡◌, IfOk};
-ghost use Rattle.ed_base.specs.ChangeList.{new_len, step};
+ghost use Rattle.std.specs.Prelude.{◌≡◌, ◌<◌, ◌^◌, IfOk};
+ghost use Rattle.ed_base.specs.ChangeList.{IsNormal, new_len, step};
 ghost use Rattle.ed_kept.specs.Kept.{AreRunsRising, pairs_of, runs_of};
 
 use ed_base::{Changes, OutOfMemory};
@@ -24,6 +24,8 @@ pub fn kept_by(alloc: Global, changes: &Changes) -> Result<Vec<KeptRun>, OutOfMe
     ensures runs { IfOk result (λ v. v.items ≡ runs_of changes.now) }
     ensures kept { IfOk result (λ v. pairs_of v.items ≡ (step changes.now).kept) }
     ensures rising { IfOk result (λ v. AreRunsRising 0 0 changes.now.old_len (new_len changes.now) v.items) }
+    ensures old_short { changes.now.old_len < 2 ^ 32 }
+    ensures normal { IsNormal changes.now }
 {
     let list = changes.as_slice();
     let old_len = changes.old_len();

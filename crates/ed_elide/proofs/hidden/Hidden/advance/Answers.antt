@@ -1,17 +1,15 @@
 -- What stays hidden, and what is put in among hidden units but for what came through the buffer.
-use Rattle.std.proofs.Common.{◌≡◌, ℕ, ◌+◌, ◌-◌, ◌<◌, ◌≤◌, ◌^◌, not, ◌||◌, ◌&&◌, List, length, sym, ap, subst, ◌∙◌, arith}
+use Rattle.std.proofs.Common.{◌≡◌, ℕ, ◌-◌, ◌<◌, ◌^◌, not, ◌||◌, ◌&&◌, ap, ◌∙◌, arith}
 use Rattle.std.specs.List.{All, list_any}
-use Rattle.ed_base.specs.declared.edit.Span.{Span}
 use Rattle.ed_base.specs.ChangeList.{IsNormal, new_len, step}
 use Rattle.ed_kept.specs.Kept.{ArePairsRising, pairs_of}
 use Rattle.ed_kept.proofs.RunLemmas.{runs_pairs}
-use Rattle.ed_layers.specs.Hidden.{hidden_by, nearest}
-use Rattle.ed_spans.specs.SpanSets.{AreApartFrom, EndsWithin, held_below, in_spans}
+use Rattle.ed_layers.specs.Hidden.{hidden_by}
+use Rattle.ed_spans.specs.SpanSets.{AreApartFrom, EndsWithin, in_spans}
 use Rattle.ed_spans.proofs.EndLemmas.{apart_later, apart_within}
 use Rattle.ed_elide.specs.AfterStep.{new_spans, own_spans, put_spans}
 use Rattle.ed_elide.specs.Pairs.{placed_in}
 use Rattle.ed_elide.proofs.AdvanceLemmas.{advanced, new_hold, new_within, own_within}
-use Rattle.ed_elide.proofs.NearestLemmas.{held_zero, nearest_is}
 use Rattle.ed_elide.proofs.PairLemmas.{at}
 use Rattle.ed_elide.proofs.PutLemmas.{all_puts_apart}
 use Rattle.ed_elide.proofs.ShownPairs.{pairs_within, placed_within}
@@ -76,7 +74,7 @@ kept-requires c =
     let all : All (EndsWithin (new_len c.args.step.now.changes)) c.deref-5.result.now = rw c.deref-5.ensures.value (stayed_within (goal.at.kept-requires c).In_ok-stayed (hidden_rising d (goal.at.kept-requires c).In_ok-hidden (placed d))) in
     rw c.new_len-len.ensures
     (c.in_ok-spans.ensures.apart (new_len c.args.step.now.changes) all
-      (rw (c.deref-6.ensures.value) (apart_within 0 c.new_len-len.result (new_len c.args.step.now.changes) c.in_ok-among.among.items (omega (arith, c.new_len-len.ensures)) c.in_ok-among.ensures.apart)))
+    (rw (c.deref-6.ensures.value) (apart_within 0 c.new_len-len.result (new_len c.args.step.now.changes) c.in_ok-among.among.items (omega (arith, c.new_len-len.ensures)) c.in_ok-among.ensures.apart)))
 
 -- what the spans hold
 holds : (c : In_ok-spans) → pairs_of c.in_ok-hidden.hidden.items ≡ placed_in 0 c.runs.result.now (pairs_of c.in_ok-kept.kept.items) → (q : ℕ) → q < new_len c.args.step.now.changes
@@ -84,7 +82,7 @@ holds : (c : In_ok-spans) → pairs_of c.in_ok-hidden.hidden.items ≡ placed_in
 holds c pairs q below =
     let stayed : in_spans c.deref-5.result.now q ≡ list_any (at q) (placed_in 0 c.runs.result.now (step c.args.step.now.changes).kept) =
     ap (λ ss. in_spans ss q) (c.deref-5.ensures.value ∙ c.in_ok-stayed.ensures ∙ ap new_spans c.deref-2.ensures.value) ∙ new_hold q c.in_ok-hidden.hidden.items
-      ∙ ap (list_any (at q)) (pairs ∙ ap (placed_in 0 c.runs.result.now) c.in_ok-kept.ensures.kept) in
+    ∙ ap (list_any (at q)) (pairs ∙ ap (placed_in 0 c.runs.result.now) c.in_ok-kept.ensures.kept) in
     let put : in_spans c.deref-3.result.now q ≡ in_spans (put_spans c.args.self.now c.args.step.now.changes.old_len 0 0 c.args.step.now.changes.changes) q = ap (λ ss. in_spans ss q) (c.deref-3.ensures.value ∙ c.in_ok-put.ensures.spans) in
     let own : in_spans c.deref-4.result.now q ≡ in_spans (own_spans c.args.me (new_len c.args.step.now.changes) c.args.step.now.trails) q =
     ap (λ ss. in_spans ss q) (c.deref-4.ensures.value ∙ c.in_ok-own.ensures) ∙ ap (λ n. in_spans (own_spans c.args.me n c.as_slice.result.now) q) c.new_len-len.ensures ∙ ap (λ rs. in_spans (own_spans c.args.me (new_len c.args.step.now.changes) rs) q) c.as_slice.ensures.runs in
@@ -97,4 +95,4 @@ returns c =
     let d : After-runs = (goal.at.returns c).After-runs in
     c.in_ok-next.ensures ∙ ap (λ n. hidden_by n c.in_ok-spans.spans.items) c.new_len-len.ensures
     ∙ advanced c.args.self.now c.args.me c.args.step.now.changes c.args.step.now.trails c.runs.result.now c.in_ok-spans.spans.items (normal d) c.requires c.as_slice.ensures.rising c.runs.ensures.flags
-      (holds (goal.at.returns c).In_ok-spans (pairs_are (goal.at.returns c).In_ok-hidden))
+    (holds (goal.at.returns c).In_ok-spans (pairs_are (goal.at.returns c).In_ok-hidden))

@@ -1,4 +1,4 @@
-use Rattle.std.proofs.Common.{◌≡◌, ap, sym, ◌∙◌}
+use Rattle.std.proofs.Common.{ap, sym, ◌∙◌}
 use Rattle.ed_base.specs.ChangeList.{change_list}
 use Rattle.ed_layers.specs.CarrierStep.{all_stay, carrier_step}
 use Rattle.ed_layers.specs.Records.{elision}

@@ -1,7 +1,7 @@
 -- What is found is the step, and the carrier's.
-use Rattle.std.proofs.Common.{◌≡◌, ℕ, length, refl, sym, ap, ◌∙◌}
-use Rattle.ed_base.specs.ChangeList.{change_list, new_len, step}
-use Rattle.ed_kept.specs.Kept.{ArePairsRising, kept_step}
+use Rattle.std.proofs.Common.{◌≡◌, length, refl, sym, ap, ◌∙◌}
+use Rattle.ed_base.specs.ChangeList.{change_list, step}
+use Rattle.ed_kept.specs.Kept.{kept_step}
 use Rattle.ed_kept.proofs.RunLemmas.{step_len, step_rising}
 use Rattle.ed_layers.specs.Hidden.{nearest}
 use Rattle.ed_elide.specs.AfterStep.{shown_step}

@@ -1,8 +1,7 @@
 -- Spans that lie apart stand in order, and none is to cover the source.
-use Rattle.std.proofs.Common.{◌≡◌, [], length, map, Option, Some, None, MatchOption}
+use Rattle.std.proofs.Common.{◌≡◌, [], length, Option, Some, None, MatchOption}
 use Rattle.ed_base.specs.declared.refusal.Refusal.{Refusal}
 use Rattle.ed_members.specs.declared.fault.MemberFault.{MemberFault}
-use Rattle.ed_layers.specs.Records.{tracked}
 use Rattle.ed_members.specs.Faults.{first_fault, len_in}
 use Rattle.ed_elide.proofs.ShownLemmas.{no_fault}
 use Rattle.ed_elide.proofs.hidden.Hidden.members.Goals as goal

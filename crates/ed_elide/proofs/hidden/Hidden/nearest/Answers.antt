@@ -1,5 +1,5 @@
 -- The runs that begin before the place stand first, and the last of them tells how many shown places stand before.
-use Rattle.std.proofs.Common.{◌≡◌, ℕ, ◌+◌, ◌-◌, ◌<◌, ◌≤◌, nat_lt, true, false, List, length, slice_index_or, sym, ap, subst, ◌∙◌, rules, arith}
+use Rattle.std.proofs.Common.{◌≡◌, ◌+◌, ◌-◌, ◌<◌, ◌≤◌, nat_lt, true, false, List, length, slice_index_or, sym, ap, subst, ◌∙◌, rules, arith}
 use Rattle.std.specs.List.Sorted.{IsPartitionPoint}
 use Rattle.std.proofs.lemmas.Bool.{ltb-true, ltb-false}
 use Rattle.std.proofs.lemmas.List.Sorted.{IsPartitionedBy-ltb, IsPartitionPoint-from_clause}
@@ -9,7 +9,7 @@ use Rattle.ed_layers.specs.Hidden.{hidden_by, nearest}
 use Rattle.ed_spans.specs.SpanSets.{held_below}
 use Rattle.ed_spans.proofs.EndLemmas.{apart_at}
 use Rattle.ed_elide.proofs.FlagLemmas.{length_flags}
-use Rattle.ed_elide.proofs.NearestLemmas.{apart_rises, held_last, held_none_begun, length_before, nearest_is, nearest_last}
+use Rattle.ed_elide.proofs.NearestLemmas.{apart_rises, held_none_begun, length_before, nearest_is, nearest_last}
 use Rattle.ed_elide.proofs.hidden.Hidden.nearest.Goals as goal
 use Rattle.ed_elide.proofs.hidden.Hidden.nearest.Goals.{After-partition_point-begun, After-saturating_sub}
 
@@ -21,8 +21,8 @@ point : (c : After-partition_point-begun) → IsPartitionPoint (λ (s : Span). n
 point c =
     subst (λ (ss : List Span). IsPartitionPoint (λ (s : Span). nat_lt s.start c.args.place ≡ true) (λ (s : Span). nat_lt s.start c.args.place ≡ false) ss c.partition_point-begun.result) c.as_slice-spans.ensures.value
     (IsPartitionPoint-from_clause (λ (s : Span). nat_lt s.start c.args.place) c.as_slice-spans.result.now c.partition_point-begun.result c.partition_point-begun.ensures.partitioned
-      (IsPartitionedBy-ltb (λ (s : Span). s.start) c.as_slice-spans.result.now c.args.place (rw c.as_slice-spans.ensures.value (apart_rises 0 c.self.inside.len c.self.inside.spans.items c.self.invariant.apart)))
-      (λ a r f' k. search rules))
+    (IsPartitionedBy-ltb (λ (s : Span). s.start) c.as_slice-spans.result.now c.args.place (rw c.as_slice-spans.ensures.value (apart_rises 0 c.self.inside.len c.self.inside.spans.items c.self.invariant.apart)))
+    (λ a r f' k. search rules))
 
 within : (c : After-partition_point-begun) → c.args.place ≤ c.self.inside.len
 within c = omega (arith, c.requires, ap length c.self.view_is, length_flags c.self.inside.len c.self.inside.spans.items)

@@ -1,10 +1,10 @@
-use Rattle.std.proofs.Common.{◌≡◌, Bool, true, false, if◌then◌else◌, List, [], ◌++◌, ◌+◌, ◌-◌, ◌<◌, ◌≤◌, ◌∷◌, ◌∙◌, length, drop, ap, sym, subst, arith}
+use Rattle.std.proofs.Common.{◌≡◌, Bool, true, false, if◌then◌else◌, List, [], ◌++◌, ◌+◌, ◌-◌, ◌≤◌, ◌∷◌, ◌∙◌, length, drop, ap, sym, arith}
 use Rattle.ed_base.specs.ChangeList.{new_len}
 use Rattle.ed_base.specs.declared.edit.Span.{Span}
 use Rattle.ed_layers.specs.Hidden.{among_hidden}
 use Rattle.ed_spans.specs.SpanSets.{before}
 use Rattle.ed_elide.specs.AfterStep.{left_of, right_of}
-use Rattle.ed_elide.proofs.PutLemmas.{Putting, putting_all, putting_at, putting_fits, putting_more, putting_none}
+use Rattle.ed_elide.proofs.PutLemmas.{Putting, putting_at, putting_fits, putting_more, putting_none}
 use Rattle.ed_elide.proofs.hidden.Hidden.put_spans.Goals as goal
 use Rattle.ed_elide.proofs.hidden.Hidden.put_spans.Goals.{After-change-item, Joined-is_among, then-is_among+in_ok-put, else-is_among}
 

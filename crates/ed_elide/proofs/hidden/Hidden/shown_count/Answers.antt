@@ -1,11 +1,10 @@
-use Rattle.std.proofs.Common.{◌≡◌, ℕ, zero, suc, Bool, true, false, true≢false, nat_eq, if◌then◌else◌, inl, inr, refl, ◌+◌, ◌-◌, ◌<◌, ◌≤◌, ◌^◌, List, [], ◌∷◌, length, slice_index_or, nat_lt, ap, sym, ◌∙◌, arith}
+use Rattle.std.proofs.Common.{◌≡◌, ℕ, zero, suc, Bool, true, false, true≢false, nat_eq, if◌then◌else◌, inl, inr, refl, ◌+◌, ◌-◌, ◌<◌, ◌≤◌, List, [], ◌∷◌, length, slice_index_or, nat_lt, ap, sym, ◌∙◌, arith}
 use Rattle.std.proofs.lemmas.Bool.{cases_lt, lt-ltb, le-ltb, eqb-true}
 use Rattle.std.proofs.lemmas.List.{nil_from_length}
 use Rattle.ed_base.specs.declared.edit.Span.{Span}
 use Rattle.ed_base.specs.Runs.{runs}
 use Rattle.ed_base.specs.Spans.{end_of}
 use Rattle.ed_layers.specs.Records.{is_shown}
-use Rattle.ed_layers.specs.Hidden.{hidden_by}
 use Rattle.ed_spans.specs.SpanSets.{AreApartFrom, gaps}
 use Rattle.ed_spans.proofs.EndLemmas.{apart_at}
 use Rattle.ed_spans.proofs.GapLemmas.{gaps_apart}

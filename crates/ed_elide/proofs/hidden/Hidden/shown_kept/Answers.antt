@@ -1,10 +1,10 @@
 -- The kept runs of the source, restricted to what was shown, then to what is shown next.
-use Rattle.std.proofs.Common.{◌≡◌, ℕ, ◌+◌, ◌-◌, ◌<◌, ◌≤◌, ◌^◌, List, length, sym, ap, subst, ◌∙◌, arith}
-use Rattle.ed_base.specs.ChangeList.{new_len, step}
+use Rattle.std.proofs.Common.{◌≡◌, ◌-◌, ◌<◌, ◌≤◌, ◌^◌, length, sym, ap, subst, ◌∙◌, arith}
+use Rattle.ed_base.specs.ChangeList.{new_len}
 use Rattle.ed_kept.specs.Kept.{ArePairsRising, pairs_of}
 use Rattle.ed_kept.proofs.RunLemmas.{runs_pairs}
 use Rattle.ed_layers.specs.Hidden.{nearest}
-use Rattle.ed_spans.specs.SpanSets.{AreApartFrom, held_below}
+use Rattle.ed_spans.specs.SpanSets.{held_below}
 use Rattle.ed_spans.proofs.EndLemmas.{apart_later}
 use Rattle.ed_elide.specs.AfterStep.{shown_pairs}
 use Rattle.ed_elide.specs.Pairs.{placed_in, turned}
@@ -42,10 +42,10 @@ parts_within-requires-2-clause-rising c =
     let few : held_below (length c.args.self.now) c.in_ok-before.before.items ≤ length c.args.self.now = omega (arith, c.in_ok-before.ensures.near (length c.args.self.now) (omega arith), nearest_within c.args.self.now (length c.args.self.now) (omega arith)) in
     let placed : ArePairsRising 0 0 (held_below (length c.args.self.now) c.in_ok-before.before.items) (length c.args.next.now) (placed_in 0 c.in_ok-before.before.items (pairs_of c.in_ok-kept.kept.items)) =
     subst (λ x. ArePairsRising x 0 (held_below (length c.args.self.now) c.in_ok-before.before.items) (length c.args.next.now) (placed_in 0 c.in_ok-before.before.items (pairs_of c.in_ok-kept.kept.items))) (held_zero c.in_ok-before.before.items)
-      (placed_rising 0 (length c.args.self.now) 0 0 (length c.args.self.now) (length c.args.next.now) c.in_ok-before.before.items (pairs_of c.in_ok-kept.kept.items) c.in_ok-before.ensures.apart (kept_rising d)) in
+    (placed_rising 0 (length c.args.self.now) 0 0 (length c.args.self.now) (length c.args.next.now) c.in_ok-before.before.items (pairs_of c.in_ok-kept.kept.items) c.in_ok-before.ensures.apart (kept_rising d)) in
     rw (c.deref-4.ensures.value, by_new e)
     (pairs_within (length c.args.next.now) (held_below (length c.args.self.now) c.in_ok-before.before.items) (2 ^ 32 - 1) (2 ^ 32 - 1) (turned (placed_in 0 c.in_ok-before.before.items (pairs_of c.in_ok-kept.kept.items))) (omega (arith, (short d).1)) (omega (arith, (short d).0, few))
-      (turned_rising 0 0 (held_below (length c.args.self.now) c.in_ok-before.before.items) (length c.args.next.now) (placed_in 0 c.in_ok-before.before.items (pairs_of c.in_ok-kept.kept.items)) placed))
+    (turned_rising 0 0 (held_below (length c.args.self.now) c.in_ok-before.before.items) (length c.args.next.now) (placed_in 0 c.in_ok-before.before.items (pairs_of c.in_ok-kept.kept.items)) placed))
 
 pub parts_within-requires-2-clause-apart : goal.parts_within-requires-2-clause-apart
 parts_within-requires-2-clause-apart c =
@@ -61,11 +61,11 @@ pub returns-clause-pairs : goal.returns-clause-pairs
 returns-clause-pairs c =
     both (goal.at.returns-clause-pairs c).In_ok-both (by_new (goal.at.returns-clause-pairs c).In_ok-by_new)
     ∙ twice_placed c.args.self.now c.args.next.now (length c.args.self.now) (length c.args.next.now) c.in_ok-before.before.items c.in_ok-behind.behind.items c.in_ok-before.ensures.shown c.in_ok-before.ensures.near c.in_ok-behind.ensures.shown c.in_ok-behind.ensures.near
-      0 0 (pairs_of c.in_ok-kept.kept.items) (kept_rising (goal.at.returns-clause-pairs c).In_ok-behind)
+    0 0 (pairs_of c.in_ok-kept.kept.items) (kept_rising (goal.at.returns-clause-pairs c).In_ok-behind)
     ∙ ap (shown_pairs c.args.self.now c.args.next.now) c.in_ok-kept.ensures.kept
 
 pub returns-clause-rising : goal.returns-clause-rising
 returns-clause-rising c =
     rw (both (goal.at.returns-clause-rising c).In_ok-both (by_new (goal.at.returns-clause-rising c).In_ok-by_new))
     (twice_rising c.args.self.now c.args.next.now (length c.args.self.now) (length c.args.next.now) (nearest c.args.self.now (length c.args.self.now)) (nearest c.args.next.now (length c.args.next.now)) c.in_ok-before.before.items c.in_ok-behind.behind.items (pairs_of c.in_ok-kept.kept.items)
-      c.in_ok-before.ensures.apart c.in_ok-behind.ensures.apart (sym (c.in_ok-before.ensures.near (length c.args.self.now) (omega arith))) (sym (c.in_ok-behind.ensures.near (length c.args.next.now) (omega arith))) (kept_rising (goal.at.returns-clause-rising c).In_ok-behind))
+    c.in_ok-before.ensures.apart c.in_ok-behind.ensures.apart (sym (c.in_ok-before.ensures.near (length c.args.self.now) (omega arith))) (sym (c.in_ok-behind.ensures.near (length c.args.next.now) (omega arith))) (kept_rising (goal.at.returns-clause-rising c).In_ok-behind))

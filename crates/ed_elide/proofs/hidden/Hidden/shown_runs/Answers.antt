@@ -1,4 +1,4 @@
-use Rattle.std.proofs.Common.{◌≡◌, length, sym, ap, ◌∙◌, arith}
+use Rattle.std.proofs.Common.{◌≡◌, length, sym, ap, ◌∙◌}
 use Rattle.ed_base.specs.Runs.{runs}
 use Rattle.ed_layers.specs.Hidden.{nearest}
 use Rattle.ed_layers.specs.Records.{is_shown}
