@@ -6,13 +6,14 @@ use crate::memory::OutOfMemory;
 use crate::mode::SpanMode;
 use crate::numbers::BufferNo;
 use crate::shared::SharedList;
-use crate::units::Units;
+use crate::units::{Unit, Units};
 use std::alloc::Global;
 
-/// A member of a projection: a text of its own, or a span of a source that follows it.
+/// A member of a projection: a text of its own, whose units all versions share, or a span of a source
+/// that follows it.
 #[derive(Drop)]
 pub enum Member {
-    Literal(Units),
+    Literal(SharedList<Unit>),
     Tracked {
         source: BufferNo,
         bounds: Span,

@@ -1,29 +1,22 @@
 -- What is told of a stock is so of its buffers.
-use Rattle.std.proofs.Common.{◌≡◌, ℕ, zero, suc, ◌+◌, ◌-◌, ◌<◌, ◌≤◌, ◌^◌, true, false, inl, inr, List, [], ◌∷◌, length, map, Option, Some, None, refl, sym, ap, ◌∙◌, subst, arith}
+use Rattle.std.proofs.Common.{◌≡◌, ℕ, zero, suc, ◌<◌, ◌≤◌, ◌^◌, inl, inr, List, [], ◌∷◌, length, map, Option, Some, None, refl, sym, ap, ◌∙◌, subst, arith}
 use Rattle.std.specs.Prelude.{slice_get, slice_index_or, sum_by, unwrap_or, if◌then◌else◌}
-use Rattle.std.specs.Option.{option_map_or}
-use Rattle.std.specs.List.{range_with_len}
 use Rattle.std.proofs.lemmas.Bool.{cases_lt, lt-ltb}
 use Rattle.std.proofs.lemmas.List.{length-map}
 use Rattle.std.proofs.lemmas.List.Sums.{sum_by-cons}
 use Rattle.std.proofs.lemmas.Option.{slice_get_within}
 use Rattle.ed_base.specs.declared.refusal.Refusal.{Refusal}
 use Rattle.ed_base.specs.declared.refusal.Which.{Which}
-use Rattle.ed_base.specs.Numbers.{first_some, or_else, places}
-use Rattle.ed_layers.specs.Records.{base, is_carrier, members_of}
-use Rattle.ed_project.specs.Records.{Projection, record_of, shown, shown_now}
-use Rattle.ed_project.specs.declared.Shown.{Shown}
+use Rattle.ed_base.specs.Numbers.{first_some, or_else}
+use Rattle.ed_layers.specs.Records.{members_of}
 use Rattle.ed_stock.specs.Limits.{inserted, over, placements, some_over, stock_limits, versions}
-use Rattle.ed_stock.specs.Stock.{Stock, Buffer, buffer, count, graph_order, record_now, reiterated_in, text_at, text_now}
-use Rattle.ed_version.specs.declared.Version.{Version}
+use Rattle.ed_stock.specs.Stock.{Stock, buffer, count, graph_order, record_now, text_at, text_now}
 use Rattle.ed_climb.specs.declared.counts.Counts.{Counts}
 use Rattle.ed_held.specs.declared.held.Held.{Held}
-use Rattle.ed_held.specs.Asking.{IsBase}
 use Rattle.ed_climb.specs.Kept.{IsKept}
-use Rattle.ed_held.specs.Seen.{base_record, known, last_of, reiterated_of, stock, text_of}
+use Rattle.ed_held.specs.Seen.{known, stock, text_of}
 use Rattle.ed_climb.proofs.Advanced.{element}
 use Rattle.ed_risen.proofs.Growth.{missing}
-use Rattle.ed_risen.proofs.RisingLemmas.{get_last}
 use Rattle.ed_risen.proofs.Lists.{get_map}
 
 -- ---- within the limits

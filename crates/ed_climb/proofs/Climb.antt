@@ -1,52 +1,47 @@
 -- One buffer further on the way.
-use Rattle.std.proofs.Common.{◌≡◌, ◌≢◌, ℕ, zero, suc, ◌-◌, ◌<◌, ◌≤◌, ◌^◌, Bool, true, false, ◌&&◌, ◌⊎◌, inl, inr, List, [], ◌∷◌, ◌++◌, length, map, fold, Option, Some, None, refl, sym, ap, ◌∙◌, subst, arith, length-set}
-use Rattle.std.specs.Prelude.{All, slice_get, slice_set, slice_index_or, option_map, nat_eq, is_some, is_none, MatchOption, unwrap_or, if◌then◌else◌}
-use Rattle.std.specs.Option.{option_map_or}
+use Rattle.std.proofs.Common.{◌≡◌, ◌≢◌, ℕ, ◌-◌, ◌<◌, ◌≤◌, ◌^◌, Bool, true, false, ◌&&◌, ◌⊎◌, inl, inr, List, [], ◌∷◌, ◌++◌, length, map, Option, Some, None, refl, sym, ap, ◌∙◌, subst, length-set}
+use Rattle.std.specs.Prelude.{All, slice_get, option_map, nat_eq, is_some, is_none, MatchOption, if◌then◌else◌}
 use Rattle.std.specs.List.{AllByRecursion as Each, list_any}
-use Rattle.std.proofs.lemmas.Bool.{cases_Bool, cases_eq, eqb-true, eq-eqb, ne_eqb}
+use Rattle.std.proofs.lemmas.Bool.{cases_Bool, cases_eq, eq-eqb, ne_eqb}
 use Rattle.std.proofs.lemmas.List.{length-map, map-append}
 use Rattle.ed_base.specs.declared.Member.{Member}
-use Rattle.ed_base.specs.Numbers.{is_among, places}
+use Rattle.ed_base.specs.Numbers.{is_among}
 use Rattle.ed_base.specs.Step.{Step}
 use Rattle.ed_base.specs.ChangeList.{change_list, new_len, step}
-use Rattle.ed_layers.specs.Records.{Record, base, projection, sources_of, version_in, members_len}
-use Rattle.ed_layers.specs.Cells.{text}
-use Rattle.ed_layers.specs.Bounds.{members_after}
+use Rattle.ed_layers.specs.Records.{Record, base, projection, elision, is_carrier, is_elision, members_len, members_of, sources_of}
 use Rattle.ed_layers.specs.SourceStep.{SourceStep}
 use Rattle.ed_layers.specs.CarrierStep.{all_stay, carrier_step, record_trails}
 use Rattle.ed_members.specs.Moving.{EndsInNew}
-use Rattle.ed_project.specs.Planning as projections
-use Rattle.ed_project.specs.Records.{Projection, Next, IsUnchanged, record_of, shown, shown_now, version_at}
-use Rattle.ed_project.specs.declared.Shown.{Shown}
-use Rattle.ed_project.specs.Texts.{HasSource, text_in, text_over, versions_of}
+use Rattle.ed_project.specs.Texts.{found_text, text_in, text_over, versions_of}
 use Rattle.ed_stock.specs.Stock.{Stock, Buffer, buffer, now, record_at, record_now, text_at, text_now, count, with_buffer}
 use Rattle.ed_stock.specs.Versions.{Rising, step_in, at_now, is_moved, risen_at, none_given, next_record, with_record, with_version}
 use Rattle.ed_held.specs.declared.held.Held.{Held}
 use Rattle.ed_held.specs.declared.moves.Move.{Move}
 use Rattle.ed_held.specs.declared.moves.Planned.{Planned}
-use Rattle.ed_held.specs.Advancing.{IsNextOf, sources_held}
-use Rattle.ed_layers.specs.Order.{mode_fault, overlap_fault}
+use Rattle.ed_held.specs.Advancing.{AreOfSource, CanGoOn, next_of}
+use Rattle.ed_layers.specs.Order.{overlap_fault}
 use Rattle.ed_pieces.specs.Trails.{trails_in}
 use Rattle.ed_pieces.specs.declared.trails.TrailRun.{TrailRun}
-use Rattle.ed_climb.specs.Climbing.{CanRise, HandsUp, is_over, source_snapshots}
-use Rattle.ed_risen.specs.Founded.{Founded, Extends}
+use Rattle.ed_climb.specs.Climbing.{CanRise, HandsUp, HasNext, is_over, record_after, source_snapshots}
+use Rattle.ed_risen.specs.Founded.{Founded}
 use Rattle.ed_risen.specs.Growing.{Grows}
-use Rattle.ed_held.specs.Moves.{AreApart, IsPlannedAt, CanMake, move_of, move_seen, rising_of, snapshot_after, step_of, with_move}
-use Rattle.ed_risen.specs.Rising.{EndsIn, Inside, IsLow, IsSettled, Rises, StandInside}
+use Rattle.ed_held.specs.Moves.{AreApart, IsPlannedAt, CanMake, changes_of, move_of, move_seen, record_of, rising_of, snapshot_after, snapshot_of, step_of, with_move}
+use Rattle.ed_risen.specs.Rising.{EndsIn, HasStepped, Inside, IsLow, IsSettled, Rises}
 use Rattle.ed_climb.specs.Route.{AreTrue, Climbs, IsNewest, IsReached, IsRoute, KeepTheirs, Route, newest}
-use Rattle.ed_held.specs.Seen.{base_record, known, seen, stock, stock_of, Known}
-use Rattle.ed_version.specs.declared.Version.{Version}
+use Rattle.ed_held.specs.Seen.{known, last_of, stock, stock_of, text_of}
 use Rattle.ed_version.specs.declared.Snapshot.{Snapshot}
-use Rattle.ed_climb.proofs.Advanced.{map_set, same_known}
-use Rattle.ed_risen.proofs.Settled.{each_at}
-use Rattle.ed_risen.proofs.FoundedLemmas.{each_version, each_weaker, founded_in, founded_more}
-use Rattle.ed_risen.proofs.Growth.{grown_extends, grown_last, grown_now, grown_now_other, grown_record_other, grown_text_now, same_growth, set_grows, set_here, set_other, version_grows}
+use Rattle.ed_climb.proofs.Advanced.{map_set}
+use Rattle.ed_risen.proofs.Settled.{all_of}
+use Rattle.ed_risen.proofs.FoundedLemmas.{each_weaker, founded_more}
+use Rattle.ed_risen.proofs.Growth.{grown_now, grown_now_other, grown_record_other, grown_text_now, set_grows, set_here, set_other, version_grows}
+use Rattle.ed_risen.proofs.NextRecords.{fits_named, grown_carrier_at, grown_carrier_text, next_carries, next_hidden, next_sources}
+use Rattle.ed_risen.proofs.ShownRuns.{slots_len, stands}
 use Rattle.ed_risen.proofs.Covering.{risen_cover}
-use Rattle.ed_risen.proofs.Lengths.{length_slots, step_in_old, step_in_push}
-use Rattle.ed_risen.proofs.Texts.{named_text, projection_text, same_text}
+use Rattle.ed_risen.proofs.Lengths.{Fits, length_text_over, step_in_old, step_in_push}
+use Rattle.ed_risen.proofs.Texts.{named_text}
 use Rattle.ed_climb.proofs.Moved.{any_moved, step_of_move}
-use Rattle.ed_risen.proofs.RisingLemmas.{at_now_each, get_last, levels, other_than, same_record, some_records, stays, steps, unmoved_text}
-use Rattle.ed_climb.proofs.Snapshots.{found_buffer, found_each, have_sources, held_buffer, held_record, members_inside, newest_same, snaps, snaps_text, snaps_versions, snapshot_is, within_old}
+use Rattle.ed_risen.proofs.RisingLemmas.{at_now_each, carrier_steps, levels, other_than, same_record, some_records, stays, unmoved_text}
+use Rattle.ed_climb.proofs.Snapshots.{found_buffer, found_each, have_sources, held_buffer, members_inside, newest_same, snap_there, snaps, snaps_text, snaps_versions, snapshot_is, text_held, within_old}
 use Rattle.ed_risen.proofs.Lists.{get_map, each_of, among_itself, among_last, among_more, among_push, any_same, each_push, fold_push, got, push_among}
 use Rattle.ed_risen.proofs.Turns.{rests}
 
@@ -64,10 +59,11 @@ snapshot_by b v text = record { buffer = b; version = v; text = text }
 abbrev pub rising_to : Stock → List (ℕ × SourceStep) → Rising
 rising_to x moves = record { stock = x; moves = moves }
 
-pub base_sources : (vs : List Version) (i : ℕ) → sources_of (unwrap_or (slice_get (map base_record vs) i) (base [] 0)) ≡ []
-base_sources [] i = refl
-base_sources (v ∷ vs) zero = refl
-base_sources (v ∷ vs) (suc i) = base_sources vs i
+-- what comes next by the definitions, over the sources as they are
+next_again : (t : Stock) (b : ℕ) (steps : ℕ → Option SourceStep) (x : Record) → next_record t b steps None x ≡ next_of b steps (at_now t (sources_of x)) x
+next_again t b steps (base text reiterated) = refl
+next_again t b steps (projection members sources) = refl
+next_again t b steps (elision flags source version) = rw (eq-eqb source source refl) refl
 
 pub apart_push : (ms : List Move) (m : Move) → AreApart ms → Each (λ n. n.buffer ≢ m.buffer) ms → AreApart (ms ++ m ∷ [])
 apart_push [] m h k = (tt, tt)
@@ -216,27 +212,20 @@ module _ (w : Route) (order : List ℕ) (route : IsRoute w order) (passed done :
     ]
 
     module _ (h : Held) (held : slice_get hs b ≡ Some h) where
-      pub buffer_is : buffer s b ≡ seen h
+      buffer_is : buffer s b ≡ (known h).buffer
       buffer_is = ap (λ x. buffer x b) (sym same_stock) ∙ held_buffer hs b h held
 
-      -- the sources that it names
-      pub record_is : (p : Projection) (turns : ℕ) → buffer s b ≡ seen (Held.Projection p turns) → slice_get hs b ≡ Some (Held.Projection p turns) → record_now s b ≡ record_of (shown_now p)
-      record_is p turns is found =
-          let some : 0 < length (buffer s b).records = route.settled.some b reached.there in
-          let more : 0 < length (map record_of p.versions) = subst (λ (y : Buffer). 0 < length y.records) is some in
-          ap (λ x. record_now x b) (sym same_stock) ∙ held_record hs b p turns found (subst (λ n. 0 < n) (length-map p.versions record_of) more)
+      -- its record, and the sources that it names
+      pub record_is : record_now s b ≡ last_of (known h).buffer
+      record_is = ap last_of buffer_is
 
-      sources_by : (x : Held) → buffer s b ≡ seen x → slice_get hs b ≡ Some x → sources_of (record_now s b) ≡ sources_held x
-      sources_by (Held.Base x) is found = ap (λ (y : Buffer). sources_of (unwrap_or (slice_get y.records (length y.records - 1)) (base [] 0))) is ∙ base_sources x.chain.versions (length (map base_record x.chain.versions) - 1)
-      sources_by (Held.Projection p turns) is found = ap sources_of (record_is p turns is found)
-
-      pub sources_are : sources_of (record_now s b) ≡ sources_held h
-      sources_are = sources_by h buffer_is held
+      pub sources_are : sources_of (record_now s b) ≡ sources_of (last_of (known h).buffer)
+      sources_are = ap sources_of record_is
 
       -- whether it has moved already, or a source of it has
       sources_moved : (is_among b w.start ≡ false) → is_moved r b ≡ is_over ms h
       sources_moved low =
-          ap (λ cs. list_any (λ source. is_some (step_in r.moves source)) cs) (climbs.rises.names b low ∙ ap (map (λ v. v.0)) sources_are) ∙ any_moved ms (sources_held h)
+          ap (λ cs. list_any (λ source. is_some (step_in r.moves source)) cs) (climbs.rises.names b low ∙ ap (map (λ v. v.0)) sources_are) ∙ any_moved ms (sources_of (last_of (known h).buffer))
 
       moves_by : (o : Option Move) (d : Bool) → move_of ms b ≡ o → is_among b done ≡ d → (is_none o && is_over ms h) ≡ is_moved r b
       moves_by (Some m) true is in_ = sym (quiet_here in_)
@@ -255,272 +244,286 @@ module _ (w : Route) (order : List ℕ) (route : IsRoute w order) (passed done :
         | inr out ↦ out
       ]
 
-      pub inside_by : (x : Record) → record_now s b ≡ x → Inside s x
+      inside_by : (x : Record) → record_now s b ≡ x → Inside s x
       inside_by x is = subst (Inside s) is (route.settled.inside b reached.there)
 
-      pub there_sources : is_moved r b ≡ true → Each (λ v. v.0 < count s) (sources_held h)
-      there_sources moved = subst (Each (λ v. v.0 < count s)) sources_are
-          (each_weaker (λ (v : ℕ × ℕ). (v.0 < count s) × (w.height v.0 < w.height b)) (λ v. v.0 < count s) (λ v l. l.0) (sources_of (record_now s b)) (low (out_of moved)))
+      pub there_sources : is_moved r b ≡ true → Each (λ v. v.0 < count s) (sources_of (record_now s b))
+      there_sources moved =
+          each_weaker (λ (v : ℕ × ℕ). (v.0 < count s) × (w.height v.0 < w.height b)) (λ v. v.0 < count s) (λ v l. l.0) (sources_of (record_now s b)) (low (out_of moved))
 
-      pub still_text : (c : ℕ) → c < count s → step_in r.moves c ≡ None → text_now t c ≡ text_now s c
+      there_by : is_moved r b ≡ true → (x : Record) → record_now s b ≡ x → Each (λ v. v.0 < count s) (sources_of x)
+      there_by moved x is = subst (λ y. Each (λ v. v.0 < count s) (sources_of y)) is (there_sources moved)
+
+      -- a buffer that stands on others is a carrier
+      carries : is_moved r b ≡ true → is_carrier (record_now s b) ≡ true
+      carries moved = by (record_now s b) refl
+        where
+          by : (x : Record) → record_now s b ≡ x → is_carrier x ≡ true
+          by (projection members sources) is = refl
+          by (elision flags source version) is = refl
+          by (base text reiterated) is =
+              absurd (let f : is_moved r b ≡ false = ap (λ cs. list_any (λ source. is_some (step_in r.moves source)) cs) (climbs.rises.names b (climbs.rises.started b (out_of moved)) ∙ ap (λ x. map (λ v. v.0) (sources_of x)) is) in cc)
+
+      still_text : (c : ℕ) → c < count s → step_in r.moves c ≡ None → text_now t c ≡ text_now s c
       still_text c there still = unmoved_text s w.height route.settled w.start done r climbs.rises c there still
 
-      theirs_here : is_moved r b ≡ true → (p : Projection) (turns : ℕ) → slice_get hs b ≡ Some (Held.Projection p turns) → record_now s b ≡ record_of (shown_now p) → KeepTheirs p.buffer (step_in r.moves) (shown_now p).members
-      theirs_here moved p turns here was =
-          subst (λ c. KeepTheirs c (step_in r.moves) (shown_now p).members) (sym (true_hs.numbered b (known (Held.Projection p turns)) (get_map known hs b (Held.Projection p turns) here)))
-          (subst (λ (x : Rising). KeepTheirs b (step_in x.moves) (shown_now p).members) climbs.folded (route.theirs passed rest b (shown_now p).members (shown_now p).sources split was (ap (λ x. is_moved x b) climbs.folded ∙ moved)))
+      number : (known h).number ≡ b
+      number = true_hs.numbered b (known h) (get_map known hs b h held)
 
-      can_by : (x : Held) → h ≡ x → is_moved r b ≡ true → CanRise hs ms (step_in r.moves) x
-      can_by (Held.Base x) is moved = tt
-      can_by (Held.Projection p turns) is moved =
-          let there : Each (λ v. v.0 < count s) (shown_now p).sources = subst (λ x. Each (λ v. v.0 < count s) (sources_held x)) is (there_sources moved) in
-          let rec : record_now s b ≡ record_of (shown_now p) = record_is p turns (buffer_is ∙ ap seen is) (held ∙ ap Some is) in
-          let inside : Each (EndsIn s (shown_now p).sources) (shown_now p).members = (inside_by (record_of (shown_now p)) rec).ends in
-          let theirs : KeepTheirs p.buffer (step_in r.moves) (shown_now p).members = theirs_here moved p turns (held ∙ ap Some is) rec in
-          let shown : source_snapshots hs ms (Held.Projection p turns) ≡ snaps t (shown_now p).sources = snapshots_newest (shown_now p).sources there in (
-            (λ k d below. there_held (slice_index_or (shown_now p).sources k d).0 (each_at (λ v. v.0 < count s) (shown_now p).sources k d there below)),
-            record {
-              within = within_old s t (step_in r.moves) climbs.rises.moved still_text (shown_now p).sources there (shown_now p).members inside;
-              inside = theirs.inside;
-              order = theirs.order;
-              there = subst (λ ss. All (HasSource (step_in r.moves) ss) (shown_now p).members) (sym shown) (have_sources s t (step_in r.moves) climbs.rises.moved still_text (shown_now p).sources there (shown_now p).members inside);
-            },
-          )
+      shown_are : is_moved r b ≡ true → source_snapshots hs ms (known h) ≡ snaps t (sources_of (record_now s b))
+      shown_are moved = ap (map (λ v. snapshot_after hs ms v.0)) (sym sources_are) ∙ snapshots_newest (sources_of (record_now s b)) (there_sources moved)
+
+      theirs_here : is_moved r b ≡ true → (members : List Member) (sources : List (ℕ × ℕ)) → record_now s b ≡ projection members sources → KeepTheirs b (step_in r.moves) members
+      theirs_here moved members sources is =
+          subst (λ (x : Rising). KeepTheirs b (step_in x.moves) members) climbs.folded (route.theirs passed rest b members sources split is (ap (λ x. is_moved x b) climbs.folded ∙ moved))
+
+      go_by : is_moved r b ≡ true → (x : Record) → record_now s b ≡ x → CanGoOn b (step_in r.moves) (snaps t (sources_of x)) x
+      go_by moved (base text reiterated) is = absurd (let e : is_carrier (base text reiterated) ≡ true = ap is_carrier (sym is) ∙ carries moved in cc)
+      go_by moved (projection members sources) is =
+          let there : Each (λ v. v.0 < count s) sources = there_by moved (projection members sources) is in
+          let inside : Each (EndsIn s sources) members = (inside_by (projection members sources) is).ends in
+          let theirs : KeepTheirs b (step_in r.moves) members = theirs_here moved members sources is in
+          record {
+            within = within_old s t (step_in r.moves) climbs.rises.moved still_text sources there members inside;
+            inside = theirs.inside;
+            order = theirs.order;
+            there = have_sources s t (step_in r.moves) climbs.rises.moved still_text sources there members inside;
+          }
+      go_by moved (elision flags source version) is =
+          let long : length flags ≡ length (text_now s source) = (inside_by (elision flags source version) is).1 in
+          let there : source < count s = (there_by moved (elision flags source version) is).0 in
+          let found : found_text (snaps t ((source, version) ∷ [])) source ≡ Some (text_now t source) = snap_there t ((source, version) ∷ []) source version (rw (eq-eqb source source refl) refl) in
+          subst (λ o. MatchOption o ⊥ (AreOfSource (step_in r.moves) source (length flags))) (sym found) (by long there (step_in r.moves source) refl)
+        where
+          by : length flags ≡ length (text_now s source) → source < count s → (o : Option SourceStep) → step_in r.moves source ≡ o → MatchOption o (length flags ≡ length (text_now t source)) (λ x. (x.step.old_len ≡ length flags) × (x.step.new_len ≡ length (text_now t source)))
+          by long there None still = long ∙ ap length (sym (still_text source there still))
+          by long there (Some x) stepped = (let h : HasStepped s t source x = climbs.rises.moved source x stepped in (h.from ∙ sym long, h.to))
 
       pub can_rise : is_moved r b ≡ true → CanRise hs ms (step_in r.moves) h
-      can_rise moved = can_by h refl moved
+      can_rise moved = (
+        subst (All (λ v. v.0 < length hs)) sources_are
+            (all_of (λ (v : ℕ × ℕ). v.0 < length hs) (sources_of (record_now s b)) (each_weaker (λ (v : ℕ × ℕ). v.0 < count s) (λ (v : ℕ × ℕ). v.0 < length hs) (λ v l. there_held v.0 l) (sources_of (record_now s b)) (there_sources moved))),
+        subst (λ c. CanGoOn c (step_in r.moves) (source_snapshots hs ms (known h)) (last_of (known h).buffer)) (sym number)
+            (subst (CanGoOn b (step_in r.moves) (source_snapshots hs ms (known h))) record_is
+            (subst (λ ss. CanGoOn b (step_in r.moves) ss (record_now s b)) (sym (shown_are moved)) (go_by moved (record_now s b) refl))),
+      )
 
       -- ---- what comes next
 
-      module _ (moved : is_moved r b ≡ true) (p q : Projection) (turns : ℕ) (is : h ≡ Held.Projection p turns) (n : Next)
-          (next : IsNextOf (step_in r.moves) (source_snapshots hs ms (Held.Projection p turns)) p n) (planned : projections.IsPlanned q n) (same : IsUnchanged p q)
-          (ends : All (EndsInNew (step_in r.moves)) n.members) (fits : members_len n.members ≤ 2 ^ 22) (apart : overlap_fault n.members ≡ None) (ways : List TrailRun) (handed : HandsUp b (step_in r.moves) n.members ways) where
-        abbrev move : Move
-        move = record { buffer = b; planned = Planned.Projection n; trails = ways }
-
-        abbrev old_members : List Member
-        old_members = (shown_now p).members
-
-        abbrev sources : List (ℕ × ℕ)
-        sources = (shown_now p).sources
-
-        out : is_among b done ≡ false
+      module _ (moved : is_moved r b ≡ true) where
+        abbrev out : is_among b done ≡ false
         out = out_of moved
 
-        here : slice_get hs b ≡ Some (Held.Projection p turns)
-        here = held ∙ ap Some is
+        -- the record that comes next by the definitions
+        abbrev pub new : Record
+        new = next_record t b (step_in r.moves) None (record_now s b)
 
-        record_was : record_now s b ≡ projection old_members sources
-        record_was = record_is p turns (buffer_is ∙ ap seen is) here
+        names : sources_of new ≡ at_now t (sources_of (record_now s b))
+        names = next_sources t b (step_in r.moves) None (record_now s b)
 
-        there : Each (λ v. v.0 < count s) sources
-        there = subst (λ x. Each (λ v. v.0 < count s) (sources_held x)) is (there_sources moved)
+        carries_new : is_carrier new ≡ true
+        carries_new = next_carries t b (step_in r.moves) None (record_now s b) ∙ carries moved
 
-        shown_are : source_snapshots hs ms (Held.Projection p turns) ≡ snaps t sources
-        shown_are = snapshots_newest sources there
+        pub after_is : record_after hs ms (step_in r.moves) (known h) ≡ new
+        after_is =
+            ap (λ c. next_of c (step_in r.moves) (versions_of (source_snapshots hs ms (known h))) (last_of (known h).buffer)) number
+            ∙ ap (λ vs. next_of b (step_in r.moves) vs (last_of (known h).buffer)) (ap versions_of (shown_are moved) ∙ snaps_versions t (sources_of (record_now s b)))
+            ∙ ap (next_of b (step_in r.moves) (at_now t (sources_of (record_now s b)))) (sym record_is)
+            ∙ sym (next_again t b (step_in r.moves) (record_now s b))
 
-        number : p.buffer ≡ b
-        number = true_hs.numbered b (known (Held.Projection p turns)) (get_map known hs b (Held.Projection p turns) here)
+        texts_are : text_in (source_snapshots hs ms (known h)) ≡ named_text (record_at t) (sources_of new)
+        texts_are = ap text_in (shown_are moved) ∙ snaps_text t (sources_of (record_now s b)) ∙ ap (named_text (record_at t)) (sym names)
 
-        -- the versions that it names, and its text
-        names : n.sources ≡ at_now t sources
-        names = next.versions ∙ ap versions_of shown_are ∙ snaps_versions t sources
+        pub levels_now : (k : ℕ) → w.height b ≤ k → Each (Founded (record_at t) k) (sources_of new)
+        levels_now k le = subst (Each (Founded (record_at t) k)) (sym names)
+            (at_now_each t (Founded (record_at t) k) (sources_of (record_now s b))
+            (each_weaker (λ (v : ℕ × ℕ). Founded (record_at t) (w.height b) (v.0, now t v.0)) (λ v. Founded (record_at t) k (v.0, now t v.0)) (λ v f. founded_more (record_at t) (w.height b) k (v.0, now t v.0) le f) (sources_of (record_now s b))
+            (levels s w.height route.settled w.start done r climbs.rises b reached.there out (closed out) (low out) reached.shallow)))
 
-        text_made : n.snapshot.text ≡ text_over (named_text (record_at t) (at_now t sources)) n.members
-        text_made = next.text ∙ ap (λ f. text_over f n.members) (ap text_in shown_are ∙ snaps_text t sources)
+        -- its members end inside their sources
+        ends_if : (x : Record) → record_now s b ≡ x → All (EndsInNew (step_in r.moves)) (members_of new) → Each (EndsIn t (sources_of (next_record t b (step_in r.moves) None x))) (members_of (next_record t b (step_in r.moves) None x))
+        ends_if (base text reiterated) is ends = tt
+        ends_if (projection members sources) is ends =
+            members_inside s t (step_in r.moves) climbs.rises.moved still_text sources (there_by moved (projection members sources) is) b members 0 members (inside_by (projection members sources) is).ends
+            (subst (Each (EndsInNew (step_in r.moves))) (ap (λ x. members_of (next_record t b (step_in r.moves) None x)) is) (each_of (EndsInNew (step_in r.moves)) (members_of new) ends))
+        ends_if (elision flags source version) is ends =
+            (stands t (next_record t b (step_in r.moves) None (elision flags source version)) (next_hidden s w.height route.settled w.start done r climbs.rises b flags source version (there_by moved (elision flags source version) is).0 (inside_by (elision flags source version) is))).ends
 
-        members_are : n.members ≡ members_after b (step_in r.moves) old_members
-        members_are = next.members ∙ ap (λ c. members_after c (step_in r.moves) old_members) number
-
-        inside_then : StandInside t (at_now t sources) n.members
-        inside_then = record {
-          ends = subst (Each (EndsIn t (at_now t sources))) (sym members_are)
-              (members_inside s t (step_in r.moves) climbs.rises.moved still_text sources there b old_members 0 old_members (inside_by (projection old_members sources) record_was).ends
-              (subst (Each (EndsInNew (step_in r.moves))) members_are (each_of (EndsInNew (step_in r.moves)) n.members ends)));
-          apart = apart;
-          cover = ap (mode_fault (λ c. length (text_now t c))) members_are
-              ∙ risen_cover s w.height route.settled w.start done r climbs.rises b sources old_members there (inside_by (projection old_members sources) record_was);
+        -- and it stands there, where none of them conflict
+        inside_if : (x : Record) → record_now s b ≡ x → All (EndsInNew (step_in r.moves)) (members_of new) → overlap_fault (members_of new) ≡ None → Inside t (next_record t b (step_in r.moves) None x)
+        inside_if (base text reiterated) is ends apart = tt
+        inside_if (projection members sources) is ends apart = record {
+          ends = ends_if (projection members sources) is ends;
+          apart = ap (λ x. overlap_fault (members_of (next_record t b (step_in r.moves) None x))) (sym is) ∙ apart;
+          cover = risen_cover s w.height route.settled w.start done r climbs.rises b sources members (there_by moved (projection members sources) is) (inside_by (projection members sources) is);
         }
+        inside_if (elision flags source version) is ends apart =
+            next_hidden s w.height route.settled w.start done r climbs.rises b flags source version (there_by moved (elision flags source version) is).0 (inside_by (elision flags source version) is)
 
-        abbrev u : Stock
-        u = with_move t move
+        pub record_still : record_now t b ≡ record_now s b
+        record_still = same_record s w.height route.settled w.start done r climbs.rises b reached.there out (closed out) (low out) reached.shallow
 
         there_now : b < count t
         there_now = subst (λ k. b < k) (sym climbs.rises.same_count) reached.there
 
-        grows : Grows t u b (projection n.members (at_now t sources))
-        grows = subst (λ vs. Grows t u b (projection n.members vs)) names (version_grows t b (projection n.members n.sources) n.changes there_now)
+        -- a stock that has it
+        module _ (x : Stock) (grows : Grows t x b (next_record t b (step_in r.moves) None (record_now s b))) where
+          pub next_text : text_now x b ≡ text_over (text_in (source_snapshots hs ms (known h))) (members_of new)
+          next_text = grown_carrier_text t x b new grows (levels_now 8 reached.shallow) carries_new ∙ ap (λ f. text_over f (members_of new)) (sym texts_are)
 
-        levels_now : Each (λ v. Founded (record_at t) (w.height b) (v.0, now t v.0)) sources
-        levels_now = subst (λ x. Each (λ v. Founded (record_at t) (w.height b) (v.0, now t v.0)) (sources_of x)) record_was (levels s w.height route.settled w.start done r climbs.rises b reached.there out (closed out) (low out) reached.shallow)
+          pub next_text_at : text_at x b (length (buffer t b).records) ≡ text_over (text_in (source_snapshots hs ms (known h))) (members_of new)
+          next_text_at = grown_carrier_at t x b new grows (levels_now 8 reached.shallow) carries_new ∙ ap (λ f. text_over f (members_of new)) (sym texts_are)
 
-        founded_at : (k : ℕ) → w.height b ≤ k → Each (Founded (record_at t) k) (at_now t sources)
-        founded_at k le = at_now_each t (Founded (record_at t) k) sources (each_weaker (λ (v : ℕ × ℕ). Founded (record_at t) (w.height b) (v.0, now t v.0)) (λ v. Founded (record_at t) k (v.0, now t v.0)) (λ v f. founded_more (record_at t) (w.height b) k (v.0, now t v.0) le f) sources levels_now)
+          pub next_long : All (EndsInNew (step_in r.moves)) (members_of new) → length (text_now x b) ≡ members_len (members_of new)
+          next_long ends =
+              ap length (grown_carrier_text t x b new grows (levels_now 8 reached.shallow) carries_new)
+              ∙ length_text_over (named_text (record_at t) (sources_of new)) (members_of new) (each_weaker (EndsIn t (sources_of new)) (Fits (named_text (record_at t) (sources_of new))) (fits_named t (sources_of new)) (members_of new) (ends_if (record_now s b) refl ends))
 
-        extends_then : Extends (record_at t) (record_at u)
-        extends_then = grown_extends t u b (projection n.members (at_now t sources)) grows
+        module _ (hs' : List Held) (n : Planned) (next : HasNext hs hs' ms (step_in r.moves) b h n) (apart : overlap_fault (members_of (record_of n)) ≡ None) (ways : List TrailRun) (handed : HandsUp b (step_in r.moves) (record_of n) ways) where
+          abbrev move : Move
+          move = record { buffer = b; planned = n; trails = ways }
 
-        named_by : (c : ℕ) (o : Option ℕ) → version_in (at_now t sources) c ≡ o → option_map_or (text (record_at u) c) o [] ≡ option_map_or (text (record_at t) c) o []
-        named_by c None found = refl
-        named_by c (Some v) found = same_text (record_at t) (record_at u) extends_then c v (each_version (Founded (record_at t) 9) (at_now t sources) c v (founded_at 9 (let l : w.height b ≤ 8 = reached.shallow in omega arith)) found)
+          abbrev made : Record
+          made = record_of n
 
-        named_same : named_text (record_at u) (at_now t sources) ≡ named_text (record_at t) (at_now t sources)
-        named_same = λ i c. named_by c (version_in (at_now t sources) c) refl i
+          made_is : record_of n ≡ new
+          made_is = next.follows.record_is ∙ after_is
 
-        -- the text that the definitions give of the version
-        abbrev last_of : ℕ
-        last_of = length (buffer t b).records
+          inside_made : Inside t made
+          inside_made = subst (Inside t) (sym made_is)
+              (inside_if (record_now s b) refl (subst (λ x. All (EndsInNew (step_in r.moves)) (members_of x)) made_is next.ends) (ap (λ x. overlap_fault (members_of x)) (sym made_is) ∙ apart))
 
-        text_defined : (x : ℕ → ℕ → Option Record) → x ≡ record_at u → text x b last_of ≡ n.snapshot.text
-        text_defined x same = ap (λ y. text y b last_of) same
-            ∙ projection_text (record_at u) b last_of n.members (at_now t sources) (grown_last t u b (projection n.members (at_now t sources)) grows)
-            (each_weaker (Founded (record_at t) 8) (Founded (record_at u) 8) (founded_in (record_at t) (record_at u) extends_then 8) (at_now t sources) (founded_at 8 reached.shallow))
-            ∙ ap (λ f. text_over f n.members) named_same ∙ sym text_made
+          names_made : sources_of made ≡ at_now t (sources_of (record_now s b))
+          names_made = ap sources_of made_is ∙ names
 
-        text_then : text_now u b ≡ n.snapshot.text
-        text_then = ap (text_at u b) (grown_now t u b (projection n.members (at_now t sources)) grows) ∙ text_defined (record_at u) refl
+          abbrev u : Stock
+          u = with_move t move
 
-        -- the step
-        step_is : step n.changes ≡ carrier_step all_stay (step_in r.moves) (projection old_members sources) (projection n.members n.sources)
-        step_is = next.step.step
+          grows : Grows t u b made
+          grows = version_grows t b made (changes_of n) there_now
 
-        text_was : (shown_now p).text ≡ text_now s b
-        text_was =
-            let records : buffer s b ≡ seen (Held.Projection p turns) = buffer_is ∙ ap seen is in
-            let more : 0 < length (map record_of p.versions) = subst (λ (y : Buffer). 0 < length y.records) records (route.settled.some b reached.there) in
-            let last : slice_get p.versions (length p.versions - 1) ≡ Some (shown_now p) = get_last p.versions (subst (λ k. 0 < k) (length-map p.versions record_of) more) (shown [] [] []) in
-            let kept : text_at (stock hs) b (length p.versions - 1) ≡ (shown_now p).text =
-            true_hs.texts b (length p.versions - 1) (known (Held.Projection p turns)) (shown_now p).text (get_map known hs b (Held.Projection p turns) here) (get_map (λ v. v.text) p.versions (length p.versions - 1) (shown_now p) last) in
-            let now_is : now s b ≡ length p.versions - 1 = ap (λ (x : Buffer). length x.records - 1) records ∙ ap (λ k. k - 1) (length-map p.versions record_of) in
-            sym kept ∙ ap (λ x. text_at x b (length p.versions - 1)) same_stock ∙ ap (text_at s b) (sym now_is)
+          text_made : text_over (text_in (source_snapshots hs ms (known h))) (members_of new) ≡ (snapshot_of n).text
+          text_made = ap (λ x. text_over (text_in (source_snapshots hs ms (known h))) (members_of x)) (sym after_is) ∙ sym next.follows.text
 
-        from_len : (step n.changes).old_len ≡ length (text_now s b)
-        from_len =
-            let first : (step n.changes).old_len ≡ length (shown_now q).text = planned.from in
-            first ∙ ap (λ (vs : List Shown). length (version_at vs (length vs - 1)).text) same.versions ∙ ap length text_was
+          text_then : text_now u b ≡ (snapshot_of n).text
+          text_then = next_text u (subst (Grows t u b) made_is grows) ∙ text_made
 
-        to_len : (step n.changes).new_len ≡ length (text_now u b)
-        unfolding carrier_step
-        to_len = ap (λ x. x.new_len) step_is ∙ length_slots n.members n.sources ∙ sym planned.long ∙ ap length (sym text_then)
+          long : length (snapshot_of n).text ≡ members_len (members_of made)
+          long = next.follows.long ∙ ap (λ x. members_len (members_of x)) (sym next.follows.record_is)
 
-        -- the same by the definitions
-        abbrev with_text : Stock
-        with_text = with_buffer t b (record (buffer t b) { records = (buffer t b).records ++ projection n.members n.sources ∷ [] })
+          -- the step
+          text_was : text_of (known h) (length (known h).buffer.records - 1) ≡ text_now s b
+          text_was = text_held hs true_hs settled_hs b h held (subst (λ x. b < count x) (sym same_stock) reached.there) ∙ ap (λ x. text_now x b) same_stock
 
-        text_same : text_at with_text b last_of ≡ n.snapshot.text
-        text_same = text_defined (record_at with_text)
-            (same_growth t with_text u b (projection n.members n.sources) (set_grows t b (projection n.members n.sources) (record (buffer t b) { records = (buffer t b).records ++ projection n.members n.sources ∷ [] }) there_now refl)
-            (version_grows t b (projection n.members n.sources) n.changes there_now))
+          from_len : (step (changes_of n)).old_len ≡ length (text_now s b)
+          from_len = next.follows.from ∙ ap length text_was
 
-        trails_are : record_trails b false (step_in r.moves) (projection n.members n.sources) ≡ trails_in ways (new_len n.changes)
-        trails_are = sym handed ∙ ap (trails_in ways) (sym (planned.to ∙ planned.long))
+          step_is : step (changes_of n) ≡ carrier_step all_stay (step_in r.moves) (record_now t b) made
+          step_is = next.follows.step ∙ ap (λ x. carrier_step all_stay (step_in r.moves) x (record_after hs ms (step_in r.moves) (known h))) (sym (record_still ∙ record_is)) ∙ ap (carrier_step all_stay (step_in r.moves) (record_now t b)) (sym next.follows.record_is)
 
-        record_still : record_now t b ≡ projection old_members sources
-        record_still = same_record s w.height route.settled w.start done r climbs.rises b reached.there out (closed out) (low out) reached.shallow ∙ record_was
+          to_len : (step (changes_of n)).new_len ≡ length (text_now u b)
+          unfolding carrier_step
+          to_len = ap (λ x. x.new_len) step_is ∙ slots_len made ∙ sym long ∙ ap length (sym text_then)
 
-        abbrev by_definition : Record → Rising
-        by_definition x = with_record r b all_stay (next_record t b (step_in r.moves) None x)
+          -- the same by the definitions
+          abbrev with_text : Stock
+          with_text = with_buffer t b (record (buffer t b) { records = (buffer t b).records ++ made ∷ [] })
 
-        changes_are : n.changes ≡ change_list (carrier_step all_stay (step_in r.moves) (record_now t b) (projection n.members n.sources)) (text_at with_text b last_of)
-        changes_are = next.step.changes
-            ∙ ap (λ x. change_list (carrier_step all_stay (step_in r.moves) x (projection n.members n.sources)) n.snapshot.text) (sym record_still)
-            ∙ ap (λ us. change_list (carrier_step all_stay (step_in r.moves) (record_now t b) (projection n.members n.sources)) us) (sym text_same)
+          text_same : text_at with_text b (length (buffer t b).records) ≡ (snapshot_of n).text
+          text_same = next_text_at with_text (subst (Grows t with_text b) made_is (set_grows t b made (record (buffer t b) { records = (buffer t b).records ++ made ∷ [] }) there_now refl)) ∙ text_made
 
-        step_seen_is : (record { step = carrier_step all_stay (step_in r.moves) (record_now t b) (projection n.members n.sources); trails = record_trails b false (step_in r.moves) (projection n.members n.sources) }) ≡ step_of move
-        step_seen_is =
-            ap (λ x. stepped_by (carrier_step all_stay (step_in r.moves) x (projection n.members n.sources)) (record_trails b false (step_in r.moves) (projection n.members n.sources))) record_still
-            ∙ ap (λ x. stepped_by x (record_trails b false (step_in r.moves) (projection n.members n.sources))) (sym step_is)
-            ∙ ap (stepped_by (step n.changes)) trails_are
+          trails_are : record_trails b (is_elision made) (step_in r.moves) made ≡ trails_in ways (new_len (changes_of n))
+          trails_are = sym handed ∙ ap (trails_in ways) (sym (next.follows.to ∙ long))
 
-        made_by_definition : with_record r b all_stay (projection n.members n.sources) ≡ record { stock = u; moves = r.moves ++ move_seen move ∷ [] }
-        unfolding with_record
-        made_by_definition =
-            ap (λ c. rising_to (with_version t b (projection n.members n.sources) c) (r.moves ++ (b, stepped_by (carrier_step all_stay (step_in r.moves) (record_now t b) (projection n.members n.sources)) (record_trails b false (step_in r.moves) (projection n.members n.sources))) ∷ [])) (sym changes_are)
-            ∙ ap (λ x. rising_to u (r.moves ++ (b, x) ∷ [])) step_seen_is
+          changes_are : changes_of n ≡ change_list (carrier_step all_stay (step_in r.moves) (record_now t b) made) (text_at with_text b (length (buffer t b).records))
+          changes_are = next.follows.changes ∙ ap (λ x. change_list x (snapshot_of n).text) (sym next.follows.step ∙ step_is) ∙ ap (change_list (carrier_step all_stay (step_in r.moves) (record_now t b) made)) (sym text_same)
 
-        pushed : rising_of s (ms ++ move ∷ []) ≡ record { stock = u; moves = r.moves ++ move_seen move ∷ [] }
-        pushed = ap (λ x. rising_to x (map move_seen (ms ++ move ∷ []))) (fold_push with_move s ms move) ∙ ap (rising_to u) (map-append move_seen ms (move ∷ []))
+          step_seen_is : (record { step = carrier_step all_stay (step_in r.moves) (record_now t b) made; trails = record_trails b (is_elision made) (step_in r.moves) made }) ≡ step_of move
+          step_seen_is = ap (λ x. stepped_by x (record_trails b (is_elision made) (step_in r.moves) made)) (sym step_is) ∙ ap (stepped_by (step (changes_of n))) trails_are
 
-        next_is : next_record t b (step_in r.moves) None (projection old_members sources) ≡ projection n.members n.sources
-        next_is = ap (λ xs. projection xs (at_now t sources)) (sym members_are) ∙ ap (projection n.members) (sym names)
+          made_by_definition : with_record r b all_stay made ≡ record { stock = u; moves = r.moves ++ move_seen move ∷ [] }
+          unfolding with_record
+          made_by_definition =
+              ap (λ c. rising_to (with_version t b made c) (r.moves ++ (b, stepped_by (carrier_step all_stay (step_in r.moves) (record_now t b) made) (record_trails b (is_elision made) (step_in r.moves) made)) ∷ [])) (sym changes_are)
+              ∙ ap (λ x. rising_to u (r.moves ++ (b, x) ∷ [])) step_seen_is
 
-        pub rises_so : risen_at none_given r b ≡ rising_of s (ms ++ move ∷ [])
-        rises_so = rw moved (ap by_definition record_still ∙ ap (λ x. with_record r b all_stay x) next_is ∙ made_by_definition ∙ sym pushed)
+          pushed : rising_of s (ms ++ move ∷ []) ≡ record { stock = u; moves = r.moves ++ move_seen move ∷ [] }
+          pushed = ap (λ x. rising_to x (map move_seen (ms ++ move ∷ []))) (fold_push with_move s ms move) ∙ ap (rising_to u) (map-append move_seen ms (move ∷ []))
 
-        -- ---- the way so far
+          rises_so : risen_at none_given r b ≡ rising_of s (ms ++ move ∷ [])
+          rises_so = rw moved (ap (λ x. with_record r b all_stay (next_record t b (step_in r.moves) None x)) record_still ∙ ap (with_record r b all_stay) (sym made_is) ∙ made_by_definition ∙ sym pushed)
 
-        other : (c : ℕ) → is_among c done ≡ true → c ≢ b
-        other c in_ = other_than done b c out in_
+          -- ---- the way so far
 
-        unmoved_here : move_of ms b ≡ None
-        unmoved_here = none_by (move_of ms b) refl
-          where
-            none_by : (o : Option Move) → move_of ms b ≡ o → o ≡ None
-            none_by None found = refl
-            none_by (Some m) found = absurd (some_none (step_of m) (ap (option_map (λ x. step_of x)) (sym found) ∙ sym (step_of_move ms b) ∙ climbs.rises.later b out))
+          other : (c : ℕ) → is_among c done ≡ true → c ≢ b
+          other c in_ = other_than done b c out in_
 
-        others : Each (λ m. m.buffer ≢ b) ms
-        others = none_of ms b unmoved_here
+          unmoved_here : move_of ms b ≡ None
+          unmoved_here = none_by (move_of ms b) refl
+            where
+              none_by : (o : Option Move) → move_of ms b ≡ o → o ≡ None
+              none_by None found = refl
+              none_by (Some m) found = absurd (some_none (step_of m) (ap (option_map (λ x. step_of x)) (sym found) ∙ sym (step_of_move ms b) ∙ climbs.rises.later b out))
 
-        same_count : count u ≡ count t
-        unfolding with_version
-        same_count = length-set t.buffers b _
+          others : Each (λ m. m.buffer ≢ b) ms
+          others = none_of ms b unmoved_here
 
-        rises_then : Rises s w.height w.start (b ∷ done) (record { stock = u; moves = r.moves ++ move_seen move ∷ [] })
-        rises_then = steps s w.height route.settled w.start done r climbs.rises b reached.there out (closed out) (low out) reached.shallow old_members sources record_was n.members (step_of move) u grows same_count from_len to_len inside_then
+          same_count : count u ≡ count t
+          unfolding with_version
+          same_count = length-set t.buffers b _
 
-        newest_still : (m : Move) → (m.buffer ≢ b) → m.buffer < count s → IsNewest t m → IsNewest u m
-        newest_still m ne in_ was = was ∙ newest_same t u m.buffer (grown_now_other t u b (projection n.members (at_now t sources)) grows m.buffer ne)
-            (grown_text_now t u b (projection n.members (at_now t sources)) grows climbs.rises.founded m.buffer ne (some_records s w.height route.settled w.start done r climbs.rises m.buffer in_))
+          rises_then : Rises s w.height w.start (b ∷ done) (record { stock = u; moves = r.moves ++ move_seen move ∷ [] })
+          rises_then = carrier_steps s w.height route.settled w.start done r climbs.rises b reached.there out (closed out) (low out) reached.shallow made names_made (step_of move) u grows same_count from_len to_len inside_made
 
-        newest_all : (xs : List Move) → Each (λ m. m.buffer ≢ b) xs → Each (λ m. m.buffer < count s) xs → Each (IsNewest t) xs → Each (IsNewest u) xs
-        newest_all [] ne in_ was = tt
-        newest_all (x ∷ xs) ne in_ was = (newest_still x ne.0 in_.0 was.0, newest_all xs ne.1 in_.1 was.1)
+          newest_still : (m : Move) → (m.buffer ≢ b) → m.buffer < count s → IsNewest t m → IsNewest u m
+          newest_still m ne in_ was = was ∙ newest_same t u m.buffer (grown_now_other t u b made grows m.buffer ne)
+              (grown_text_now t u b made grows climbs.rises.founded m.buffer ne (some_records s w.height route.settled w.start done r climbs.rises m.buffer in_))
 
-        newest_here : IsNewest u move
-        newest_here =
-            let v : n.snapshot.version ≡ now u b = planned.version ∙ ap length same.versions ∙ sym versions_now in
-            whole planned.buffer v (sym text_then)
-          where
-            versions_now : now u b ≡ length p.versions
-            versions_now = grown_now t u b (projection n.members (at_now t sources)) grows ∙ ap length (climbs.rises.unmoved b (climbs.rises.later b out)) ∙ ap (λ (x : Buffer). length x.records) (buffer_is ∙ ap seen is) ∙ length-map p.versions record_of
+          newest_all : (xs : List Move) → Each (λ m. m.buffer ≢ b) xs → Each (λ m. m.buffer < count s) xs → Each (IsNewest t) xs → Each (IsNewest u) xs
+          newest_all [] ne in_ was = tt
+          newest_all (x ∷ xs) ne in_ was = (newest_still x ne.0 in_.0 was.0, newest_all xs ne.1 in_.1 was.1)
 
-            whole : n.snapshot.buffer ≡ q.buffer → n.snapshot.version ≡ now u b → n.snapshot.text ≡ text_now u b → n.snapshot ≡ newest u b
-            whole e f g = ap (λ x. snapshot_by x n.snapshot.version n.snapshot.text) (e ∙ same.buffer ∙ number) ∙ ap (λ x. snapshot_by b x n.snapshot.text) f ∙ ap (snapshot_by b (now u b)) g
+          newest_here : IsNewest u move
+          newest_here = whole next.follows.number (next.follows.version ∙ sym versions_now) (sym text_then)
+            where
+              versions_now : now u b ≡ length (known h).buffer.records
+              versions_now = grown_now t u b made grows ∙ ap length (climbs.rises.unmoved b (climbs.rises.later b out)) ∙ ap (λ (x : Buffer). length x.records) buffer_is
 
-        sources_still : (c : ℕ) → is_among c done ≡ true → is_moved (record { stock = u; moves = r.moves ++ move_seen move ∷ [] }) c ≡ is_moved r c
-        sources_still c in_ =
-            ap (λ (x : Record). list_any (λ source. is_some (step_in (r.moves ++ move_seen move ∷ []) source)) (map (λ v. v.0) (sources_of x))) (grown_record_other t u b (projection n.members (at_now t sources)) grows c (other c in_))
-            ∙ any_same (λ source. is_some (step_in (r.moves ++ move_seen move ∷ []) source)) (λ source. is_some (step_in r.moves source)) (sources_of (record_now t c))
-            (each_weaker (λ v. is_among v.0 done ≡ true) (λ v. is_some (step_in (r.moves ++ move_seen move ∷ []) v.0) ≡ is_some (step_in r.moves v.0)) (λ v i. step_still v.0 (other v.0 i) (step_in r.moves v.0) refl) (sources_of (record_now t c)) (climbs.rises.risen c in_).closed)
-          where
-            step_still : (d : ℕ) → d ≢ b → (o : Option SourceStep) → step_in r.moves d ≡ o → is_some (step_in (r.moves ++ move_seen move ∷ []) d) ≡ is_some (step_in r.moves d)
-            step_still d ne (Some x) found = ap is_some (step_in_old r.moves b d (step_of move) x found ∙ sym found)
-            step_still d ne None found = ap is_some (step_in_push r.moves b d (step_of move) found ∙ ap (λ z. if z then Some (step_of move) else None) (ne_eqb b d (λ e. ne (sym e))) ∙ sym found)
+              whole : (snapshot_of n).buffer ≡ (known h).number → (snapshot_of n).version ≡ now u b → (snapshot_of n).text ≡ text_now u b → snapshot_of n ≡ newest u b
+              whole e f g = ap (λ x. snapshot_by x (snapshot_of n).version (snapshot_of n).text) (e ∙ number) ∙ ap (λ x. snapshot_by b x (snapshot_of n).text) f ∙ ap (snapshot_by b (now u b)) g
 
-        fits_then : (c : ℕ) → c < count s → length (text_now u c) ≤ 2 ^ 22
-        fits_then c in_ = elim (cases_eq c b) [
-          | inl e ↦ subst (λ x. length (text_now u x) ≤ 2 ^ 22) (sym e) (subst (λ xs. length xs ≤ 2 ^ 22) (sym text_then) (subst (λ k. k ≤ 2 ^ 22) (sym planned.long) fits))
-          | inr ne ↦ subst (λ xs. length xs ≤ 2 ^ 22) (sym (grown_text_now t u b (projection n.members (at_now t sources)) grows climbs.rises.founded c ne (some_records s w.height route.settled w.start done r climbs.rises c in_))) (climbs.fits c in_)
-        ]
+          sources_still : (c : ℕ) → is_among c done ≡ true → is_moved (record { stock = u; moves = r.moves ++ move_seen move ∷ [] }) c ≡ is_moved r c
+          sources_still c in_ =
+              ap (λ (x : Record). list_any (λ source. is_some (step_in (r.moves ++ move_seen move ∷ []) source)) (map (λ v. v.0) (sources_of x))) (grown_record_other t u b made grows c (other c in_))
+              ∙ any_same (λ source. is_some (step_in (r.moves ++ move_seen move ∷ []) source)) (λ source. is_some (step_in r.moves source)) (sources_of (record_now t c))
+              (each_weaker (λ v. is_among v.0 done ≡ true) (λ v. is_some (step_in (r.moves ++ move_seen move ∷ []) v.0) ≡ is_some (step_in r.moves v.0)) (λ v i. step_still v.0 (other v.0 i) (step_in r.moves v.0) refl) (sources_of (record_now t c)) (climbs.rises.risen c in_).closed)
+            where
+              step_still : (d : ℕ) → d ≢ b → (o : Option SourceStep) → step_in r.moves d ≡ o → is_some (step_in (r.moves ++ move_seen move ∷ []) d) ≡ is_some (step_in r.moves d)
+              step_still d ne (Some x) found = ap is_some (step_in_old r.moves b d (step_of move) x found ∙ sym found)
+              step_still d ne None found = ap is_some (step_in_push r.moves b d (step_of move) found ∙ ap (λ z. if z then Some (step_of move) else None) (ne_eqb b d (λ e. ne (sym e))) ∙ sym found)
 
-        module _ (hs' : List Held) (set : hs' ≡ slice_set hs b (Held.Projection q turns)) where
+          fits_then : (c : ℕ) → c < count s → length (text_now u c) ≤ 2 ^ 22
+          fits_then c in_ = elim (cases_eq c b) [
+            | inl e ↦ subst (λ x. length (text_now u x) ≤ 2 ^ 22) (sym e) (subst (λ xs. length xs ≤ 2 ^ 22) (sym text_then) (subst (λ k. k ≤ 2 ^ 22) (sym long) next.fits))
+            | inr ne ↦ subst (λ xs. length xs ≤ 2 ^ 22) (sym (grown_text_now t u b made grows climbs.rises.founded c ne (some_records s w.height route.settled w.start done r climbs.rises c in_))) (climbs.fits c in_)
+          ]
+
           below : b < length hs
           below = there_held b reached.there
 
           planned_still : (m : Move) → m.buffer ≢ b → IsPlannedAt hs m → IsPlannedAt hs' m
-          planned_still m ne was = subst (λ o. MatchOption o ⊥ (λ x. CanMake x m.planned)) (sym (ap (λ xs. slice_get xs m.buffer) set ∙ set_other hs b m.buffer (Held.Projection q turns) ne)) was
+          planned_still m ne was = subst (λ o. MatchOption o ⊥ (λ x. CanMake x m.planned)) (sym (ap (λ xs. slice_get xs m.buffer) next.set ∙ set_other hs b m.buffer next.held ne)) was
 
           planned_all : (xs : List Move) → Each (λ m. m.buffer ≢ b) xs → Each (IsPlannedAt hs) xs → Each (IsPlannedAt hs') xs
           planned_all [] ne was = tt
           planned_all (x ∷ xs) ne was = (planned_still x ne.0 was.0, planned_all xs ne.1 was.1)
 
           planned_here : IsPlannedAt hs' move
-          planned_here = subst (λ o. MatchOption o ⊥ (λ x. CanMake x (Planned.Projection n))) (sym (ap (λ xs. slice_get xs b) set ∙ set_here hs b (Held.Projection q turns) below)) planned
+          planned_here = subst (λ o. MatchOption o ⊥ (λ x. CanMake x n)) (sym (ap (λ xs. slice_get xs b) next.set ∙ set_here hs b next.held below)) next.made
 
           pub climbs_on : Climbs w (passed ++ b ∷ []) (b ∷ done) hs' (ms ++ move ∷ [])
           climbs_on = record {
-            same = ap (map known) set ∙ map_set known hs b (Held.Projection p turns) (Held.Projection q turns) here (same_known p q turns same) ∙ climbs.same;
+            same = ap (map known) next.set ∙ map_set known hs b h next.held held next.same ∙ climbs.same;
             rises = subst (Rises s w.height w.start (b ∷ done)) (sym pushed) rises_then;
             folded = fold_push (risen_at none_given) w.first passed b ∙ ap (λ x. risen_at none_given x b) climbs.folded ∙ rises_so;
             planned = each_push (IsPlannedAt hs') ms move (planned_all ms others climbs.planned) planned_here;

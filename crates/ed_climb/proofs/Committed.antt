@@ -4,28 +4,22 @@ use Rattle.std.specs.Prelude.{fold, slice_get, slice_set, unwrap_or, MatchOption
 use Rattle.std.specs.Option.{option_map_or}
 use Rattle.std.specs.List.{AllByRecursion as Each}
 use Rattle.std.proofs.lemmas.Bool.{cases_eq}
-use Rattle.std.proofs.lemmas.List.{append-nil, map-append, drop_all, take_all}
+use Rattle.std.proofs.lemmas.List.{append-nil, drop_all, take_all}
 use Rattle.std.proofs.lemmas.Option.{slice_get_within}
 use Rattle.ed_base.specs.Denial.{regions_after}
 use Rattle.ed_base.specs.ChangeList.{step}
-use Rattle.ed_buffer.specs.Planning.{Base, NextVersion}
-use Rattle.ed_project.specs.Records.{Projection, Next, shown, record_of as shown_record}
-use Rattle.ed_version.specs.Chain.{version}
-use Rattle.ed_version.specs.declared.Version.{Version}
-use Rattle.ed_project.specs.declared.Shown.{Shown}
 use Rattle.ed_stock.specs.Stock.{Stock, Buffer, buffer, record_at, with_buffer}
 use Rattle.ed_stock.specs.Versions.{with_version}
 use Rattle.ed_held.specs.declared.held.Held.{Held}
 use Rattle.ed_held.specs.declared.moves.Move.{Move}
-use Rattle.ed_held.specs.declared.moves.Planned.{Planned}
 use Rattle.ed_climb.specs.Group.{Plan, IsPlanned, known_after, known_made, known_moved, outcome, set_known, MayTurn}
-use Rattle.ed_held.specs.Making.{known_grown, known_turned, IsProjection}
+use Rattle.ed_held.specs.Making.{known_grown, known_turned, CanTurn}
 use Rattle.ed_risen.specs.Counting.{turn, turned_in}
 use Rattle.ed_climb.specs.Kept.{IsKept}
 use Rattle.ed_risen.specs.Laws.{CurrentVector, OneVector, RecordsStay}
 use Rattle.ed_held.specs.Moves.{CanMake, IsPlannedAt, changes_of, record_of, with_move}
 use Rattle.ed_risen.specs.Rising.{IsSettled}
-use Rattle.ed_held.specs.Seen.{Known, base_record, known, stock, stock_of}
+use Rattle.ed_held.specs.Seen.{Known, known, stock, stock_of}
 use Rattle.ed_risen.proofs.Settled.{current_vector, records_stay}
 use Rattle.ed_risen.proofs.Growth.{missing, set_here, set_other}
 use Rattle.ed_risen.proofs.Lists.{get_map}
@@ -76,10 +70,10 @@ known_set f hs b old new is changed =
 pub set_others : (hs : List Held) (b : ℕ) (new : Held) (a : ℕ) → b ≢ a → slice_get (slice_set hs b new) a ≡ slice_get hs a
 set_others hs b new a apart = set_other hs b a new (λ e. apart (sym e))
 
-pub set_turning : (hs : List Held) (b : ℕ) (old new : Held) → slice_get hs b ≡ Some old → (IsProjection old → IsProjection new) → (a : ℕ) → MayTurn hs a → MayTurn (slice_set hs b new) a
+pub set_turning : (hs : List Held) (b : ℕ) (old new : Held) → slice_get hs b ≡ Some old → (CanTurn old → CanTurn new) → (a : ℕ) → MayTurn hs a → MayTurn (slice_set hs b new) a
 set_turning hs b old new is turns a may = elim (cases_eq a b) [
-  | inl same ↦ subst (MayTurn (slice_set hs b new)) (sym same) (subst (λ o. MatchOption o ⊥ IsProjection) (sym (set_here hs b new (slice_get_within hs b old is))) (turns (subst (λ o. MatchOption o ⊥ IsProjection) is (subst (MayTurn hs) same may))))
-  | inr apart ↦ subst (λ o. MatchOption o ⊥ IsProjection) (sym (set_other hs b a new apart)) may
+  | inl same ↦ subst (MayTurn (slice_set hs b new)) (sym same) (subst (λ o. MatchOption o ⊥ CanTurn) (sym (set_here hs b new (slice_get_within hs b old is))) (turns (subst (λ o. MatchOption o ⊥ CanTurn) is (subst (MayTurn hs) same may))))
+  | inr apart ↦ subst (λ o. MatchOption o ⊥ CanTurn) (sym (set_other hs b a new apart)) may
 ]
 
 -- a number of a buffer that is there

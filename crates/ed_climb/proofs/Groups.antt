@@ -1,5 +1,5 @@
 -- What the first versions of a group lead to.
-use Rattle.std.proofs.Common.{◌≡◌, ℕ, ◌<◌, ◌^◌, Bool, true, false, List, [], ◌∷◌, length, map, fold, Option, Some, None, Result, Ok, Err, refl, sym, ap, ◌∙◌, subst, inl, inr, le-ltb}
+use Rattle.std.proofs.Common.{◌≡◌, ℕ, ◌<◌, ◌^◌, true, List, [], length, map, fold, Option, Some, None, Result, Ok, Err, refl, sym, ap, ◌∙◌, subst, inl, inr}
 use Rattle.std.specs.Prelude.{IfOk, MatchOption, slice_get}
 use Rattle.std.specs.Option.{option_map_or}
 use Rattle.std.specs.List.{AllByRecursion as Each}
@@ -9,12 +9,11 @@ use Rattle.ed_base.specs.Numbers.{first_some, is_among, places}
 use Rattle.ed_base.specs.declared.Refusal.{Refusal}
 use Rattle.ed_base.specs.declared.Which.{Which}
 use Rattle.ed_graph.specs.Standing.{height_in, order_in}
-use Rattle.ed_layers.specs.Records.{is_elision}
 use Rattle.ed_layers.specs.SourceStep.{SourceStep}
 use Rattle.ed_project.specs.declared.ProjectionFault.{ProjectionFault}
 use Rattle.ed_stock.specs.Limits.{over, some_over, stock_limits}
-use Rattle.ed_stock.specs.Stock.{Stock, count, graph_order, now, record_at, record_now, sources_now, text_now}
-use Rattle.ed_stock.specs.Versions.{Rising, none_given, risen, risen_at, versions_made}
+use Rattle.ed_stock.specs.Stock.{Stock, count, graph_order, now, record_at, sources_now, text_now}
+use Rattle.ed_stock.specs.Versions.{Rising, none_given, risen, versions_made}
 use Rattle.ed_risen.specs.Counting.{member_count, turned_in}
 use Rattle.ed_risen.specs.Founded.{Extends}
 use Rattle.ed_climb.specs.Refusals.{Refuses}
@@ -24,9 +23,9 @@ use Rattle.ed_members.specs.Steps.{step_seen}
 use Rattle.ed_climb.specs.Counted.{AreCounts, counts_after, told}
 use Rattle.ed_climb.specs.Refusals.{carried_fault}
 use Rattle.ed_climb.specs.Group.{IsPlanned, MayTurn, Plan, known_after, known_made, known_moved, outcome, set_known}
-use Rattle.ed_held.specs.Making.{IsProjection, known_turned}
+use Rattle.ed_held.specs.Making.{CanTurn, known_turned}
 use Rattle.ed_climb.specs.Kept.{IsKept}
-use Rattle.ed_climb.specs.Limited.{limit_of}
+use Rattle.ed_climb.specs.Limited.{count_then, limit_of}
 use Rattle.ed_held.specs.Moves.{AreApart, IsPlannedAt, move_seen, rising_of, with_move}
 use Rattle.ed_climb.specs.Route.{AreTrue, Climbs, HasClimbed, IsRoute, IsTooLong, Route}
 use Rattle.ed_held.specs.Seen.{Known, known, stock, stock_of, seen}
@@ -35,13 +34,12 @@ use Rattle.ed_climb.specs.declared.fault.PlanFault.{PlanFault}
 use Rattle.ed_held.specs.declared.held.Held.{Held}
 use Rattle.ed_held.specs.declared.moves.Move.{Move}
 use Rattle.ed_risen.proofs.FoundedLemmas.{each_weaker}
-use Rattle.ed_risen.proofs.Limits.{few_buffers, not_elision, plain_inside, units_fit}
-use Rattle.ed_risen.proofs.MemberCounts.{as_many}
-use Rattle.ed_risen.proofs.RisingLemmas.{same_record_now}
-use Rattle.ed_risen.proofs.Starts.{all_there, count_left, few_left, linked_left, order_left, order_there, risen_is}
+use Rattle.ed_risen.proofs.Limits.{few_buffers, units_fit}
+use Rattle.ed_risen.proofs.Starts.{all_there, count_left, few_left, linked_left, order_left, risen_is}
 use Rattle.ed_risen.proofs.Turning.{same_now, same_records, turned_limits}
 use Rattle.ed_climb.proofs.AddedUp.{all_counts}
 use Rattle.ed_climb.proofs.Committed.{stock_folded}
+use Rattle.ed_climb.proofs.CountedThen.{counts_are}
 use Rattle.ed_climb.proofs.Leaving.{kept_then}
 use Rattle.ed_climb.proofs.Moved.{told_made}
 use Rattle.ed_climb.proofs.Refused.{too_long_refused}
@@ -58,9 +56,9 @@ refuses_memory X (Some r) e h = inr h
 pub refuses_told : (X : Type 0) (o : Option Refusal) (r : Refusal) → o ≡ Some r → Refuses {X = X} o (Err (PlanFault.Refused r))
 refuses_told X o r h = rw h (inl refl)
 
-same_map : (f g : ℕ → ℕ) (xs : List ℕ) → Each (λ c. f c ≡ g c) xs → map f xs ≡ map g xs
-same_map f g [] h = refl
-same_map f g (x ∷ xs) h = rw (h.0, same_map f g xs h.1) refl
+-- the refusal of the first buffer in this order that has too many members once the moves are made
+abbrev pub over_then : List Held → List Move → List ℕ → Option Refusal
+over_then hs ms order = some_over Which.Members 1024 (map (count_then hs ms) order)
 
 held_count : (hs : List Held) → count (stock hs) ≡ length hs
 held_count hs = length-map (map known hs) (λ (k : Known). k.buffer) ∙ length-map hs known
@@ -85,7 +83,7 @@ module _ (hs : List Held) (graph : List (List ℕ)) (counts : Counts) (kept : Is
   may_there : (c : ℕ) → MayTurn hs c → c < count s
   may_there c may = by (slice_get hs c) refl may
     where
-      by : (o : Option Held) → slice_get hs c ≡ o → MatchOption o ⊥ IsProjection → c < count s
+      by : (o : Option Held) → slice_get hs c ≡ o → MatchOption o ⊥ CanTurn → c < count s
       by None is m = absurd m
       by (Some h) is m = subst (λ n. c < n) (sym (held_count hs)) (slice_get_within hs c h is)
 
@@ -126,24 +124,18 @@ module _ (hs : List Held) (graph : List (List ℕ)) (counts : Counts) (kept : Is
     all_done : (d : ℕ) → d < count s → is_among d done ≡ true
     all_done d in_ = climbs.covers d (all_come w g begins.is_start.len begins.others begins.is_start.levelled refl true_here kept.settled begins.theirs d in_)
 
-    plain_first : (d : ℕ) → d < count s → is_elision (record_now first.stock d) ≡ false
-    plain_first d in_ = by (is_among d initial) refl
-      where
-        by : (q : Bool) → is_among d initial ≡ q → is_elision (record_now first.stock d) ≡ false
-        by true i = plain_inside first.stock (record_now first.stock d) (begins.climbs.rises.risen d i).inside
-        by false o = ap is_elision (same_record_now s first.stock d (begins.climbs.rises.unmoved d (begins.climbs.rises.later d o))) ∙ not_elision s kept.settled d in_
-
-    members_then : (d : ℕ) → d < count s → member_count t d ≡ member_count first.stock d
-    members_then d in_ = ap (λ (u : Rising). member_count u.stock d) (sym climbs.folded) ∙ as_many (order_in g) first d (order_there s g first begins.is_start) (plain_first d in_)
-
     ordered : graph_order t ≡ order_in g
     ordered = ap (λ (u : Rising). graph_order u.stock) (sym climbs.folded) ∙ order_left s g first begins.is_start
 
-    limited : (most : Option Refusal) → some_over Which.Members 1024 (map (member_count first.stock) (order_in g)) ≡ most → some_over Which.Members 1024 (map (member_count t) (graph_order t)) ≡ most
-    limited most is =
+    -- the members of all buffers, counted anew
+    pub order_held : Each (λ b. b < length hs₂) (order_in g)
+    order_held = each_weaker (λ b. b < count s) (λ b. b < length hs₂) (λ b l. subst (λ n. b < n) (ap (λ xs. count (stock_of xs)) (sym climbs.same) ∙ held_count hs₂) l) (order_in g) (all_there s g first begins.is_start)
+
+    limited : some_over Which.Members 1024 (map (member_count t) (graph_order t)) ≡ over_then hs₂ ms (order_in g)
+    limited =
         ap (λ xs. some_over Which.Members 1024 (map (member_count t) xs)) ordered
-        ∙ ap (some_over Which.Members 1024) (same_map (member_count t) (member_count first.stock) (order_in g) (each_weaker (λ c. c < count s) (λ c. member_count t c ≡ member_count first.stock c) members_then (order_in g) (all_there s g first begins.is_start)))
-        ∙ is
+        ∙ ap (λ xs. some_over Which.Members 1024 (map (member_count (fold with_move (stock_of xs) ms)) (order_in g))) (sym climbs.same)
+        ∙ ap (some_over Which.Members 1024) (counts_are hs₂ ms climbs.apart (order_in g) order_held)
 
     are_then : AreCounts (counts_after counts ms) t
     are_then = all_counts ms s counts climbs.known_buffers (record { inserted = kept.inserted; versions = kept.versions; placements = kept.placements }) kept.settled.some
@@ -151,13 +143,13 @@ module _ (hs : List Held) (graph : List (List ℕ)) (counts : Counts) (kept : Is
     left : stock_of ks ≡ t
     left = stock_folded (map known hs) ms
 
-    limits_then : (most : Option Refusal) → some_over Which.Members 1024 (map (member_count first.stock) (order_in g)) ≡ most → first_some (stock_limits t) ≡ limit_of None (counts_after counts ms) most
-    limits_then most is =
+    limits_then : first_some (stock_limits t) ≡ limit_of None (counts_after counts ms) (over_then hs₂ ms (order_in g))
+    limits_then =
         ap (λ y. first_some (stock_limits y)) (sym left)
-        ∙ limits_are ks (counts_after counts ms) (subst (AreCounts (counts_after counts ms)) (sym left) are_then) None most
+        ∙ limits_are ks (counts_after counts ms) (subst (AreCounts (counts_after counts ms)) (sym left) are_then) None (over_then hs₂ ms (order_in g))
         (ap (over Which.Buffers 64) (ap count left ∙ climbs.rises.same_count) ∙ few_buffers s kept.within)
         (ap (λ y. some_over Which.Units (2 ^ 22) (map (λ d. length (text_now y d)) (graph_order y))) left ∙ units_fit t (λ d in_. climbs.fits d (subst (λ n. d < n) climbs.rises.same_count in_)))
-        (ap (λ y. some_over Which.Members 1024 (map (member_count y) (graph_order y))) left ∙ limited most is)
+        (ap (λ y. some_over Which.Members 1024 (map (member_count y) (graph_order y))) left ∙ limited)
 
     linked_then : g ≡ map (sources_now t) (places (length hs))
     linked_then =
@@ -175,14 +167,14 @@ module _ (hs : List Held) (graph : List (List ℕ)) (counts : Counts) (kept : Is
 
     may_then : (o : Option ℕ) → MatchOption o (Unit {0}) (MayTurn hs) → MatchOption o (Unit {0}) (MayTurn hs₂)
     may_then None may = tt
-    may_then (Some c) may = may_turn hs graph counts kept c (may_there c may) hs₂ climbs.same (λ h is. subst (λ (o : Option Held). MatchOption o ⊥ IsProjection) is may)
+    may_then (Some c) may = may_turn hs graph counts kept c (may_there c may) hs₂ climbs.same (λ h is. subst (λ (o : Option Held). MatchOption o ⊥ CanTurn) is may)
 
-    -- what an answer says, where the members of buffers pass their limit so, and the members of one may have been set once more
-    module _ (o : Option ℕ) (may : MatchOption o (Unit {0}) (MayTurn hs)) (most : Option Refusal) (members_is : some_over Which.Members 1024 (map (member_count (rising_of (stock hs) ms₁).stock) (order_in g)) ≡ most) where
-      pub fault_is : first_some (stock_limits (turned_rising o (risen none_given (rising_of (stock hs) ms₁))).stock) ≡ limit_of None (counts_after counts ms) most
-      fault_is = turned_same o may (risen none_given first).stock count_risen ∙ ap (λ (u : Rising). first_some (stock_limits u.stock)) ends ∙ limits_then most members_is
+    -- what an answer says, where one buffer may have turned once more
+    module _ (o : Option ℕ) (may : MatchOption o (Unit {0}) (MayTurn hs)) where
+      pub fault_is : first_some (stock_limits (turned_rising o (risen none_given (rising_of (stock hs) ms₁))).stock) ≡ limit_of None (counts_after counts ms) (over_then hs₂ ms (order_in g))
+      fault_is = turned_same o may (risen none_given first).stock count_risen ∙ ap (λ (u : Rising). first_some (stock_limits u.stock)) ends ∙ limits_then
 
-      module _ (plan : Plan) (moves : plan.moves ≡ ms) (turned : plan.turned ≡ o) (graph_is : plan.graph ≡ g) (counts_are : plan.counts ≡ counts_after counts ms) (versions : plan.versions ≡ map told ms) (limit : limit_of None (counts_after counts ms) most ≡ None) where
+      module _ (plan : Plan) (moves : plan.moves ≡ ms) (turned : plan.turned ≡ o) (graph_is : plan.graph ≡ g) (counts_are : plan.counts ≡ counts_after counts ms) (versions : plan.versions ≡ map told ms) (limit : limit_of None (counts_after counts ms) (over_then hs₂ ms (order_in g)) ≡ None) where
         stock_then : outcome s plan ≡ turned_in t o
         stock_then = ap (λ x. turned_in (fold with_move s plan.moves) x) turned ∙ ap (λ xs. turned_in (fold with_move s xs) o) moves
 
@@ -197,7 +189,7 @@ module _ (hs : List Held) (graph : List (List ℕ)) (counts : Counts) (kept : Is
 
         kept_before : IsKept ks plan.graph plan.counts
         kept_before = kept_then hs hs₂ climbs.same graph plan.graph counts plan.counts kept (height_in g) start done ms climbs.rises climbs.apart climbs.newest all_done
-            (graph_is ∙ linked_then) (limits_then most members_is ∙ limit) (subst (λ y. AreCounts y t) (sym counts_are) are_then)
+            (graph_is ∙ linked_then) (limits_then ∙ limit) (subst (λ y. AreCounts y t) (sym counts_are) are_then)
 
         kept_after : (x : Option ℕ) → MatchOption x (Unit {0}) (MayTurn hs) → IsKept (option_map_or (λ c. set_known known_turned c ks) x ks) plan.graph plan.counts
         kept_after None m = kept_before
@@ -221,11 +213,11 @@ module _ (hs : List Held) (graph : List (List ℕ)) (counts : Counts) (kept : Is
 
 -- ---- first versions as they are handed on
 
-module _ (hs hs₁ : List Held) (same : map known hs₁ ≡ map known hs) (f : FirstMoves) (g : List (List ℕ)) (ms : List Move) (o : Option ℕ) (most : Option Refusal) (graph_is : f.graph ≡ g) (moves_are : f.moves.items ≡ ms) (turned_is : f.turned ≡ o) (members_are : f.members ≡ most) where
+module _ (hs hs₁ : List Held) (same : map known hs₁ ≡ map known hs) (f : FirstMoves) (g : List (List ℕ)) (ms : List Move) (o : Option ℕ) (graph_is : f.graph ≡ g) (moves_are : f.moves.items ≡ ms) (turned_is : f.turned ≡ o) where
   pub leads : (start initial : List ℕ) → Begins (map known hs) hs₁ g ms start initial → map (λ s. (s.source, step_seen s)) f.steps.items ≡ map move_seen f.moves.items
-      → some_over Which.Members 1024 (map (member_count (rising_of (stock hs) ms).stock) (order_in g)) ≡ most → MatchOption o (Unit {0}) (MayTurn hs₁)
+      → MatchOption o (Unit {0}) (MayTurn hs₁)
       → (fault : Option Refusal) (landed : Rising) → turned_rising o (risen none_given (rising_of (stock hs) ms)) ≡ landed → fault ≡ first_some (stock_limits landed.stock) → LeadsTo hs₁ fault landed f
-  leads start initial begins seen members turning fault landed lands allowed = record {
+  leads start initial begins seen turning fault landed lands allowed = record {
     begun = record {
       begins = (
         start,
@@ -234,11 +226,6 @@ module _ (hs hs₁ : List Held) (same : map known hs₁ ≡ map known hs) (f : F
             (subst (λ x. Begins (map known hs) hs₁ x f.moves.items start initial) (sym graph_is) (subst (λ xs. Begins (map known hs) hs₁ g xs start initial) (sym moves_are) begins)),
       );
       seen = seen;
-      members =
-          ap (λ ks. some_over Which.Members 1024 (map (member_count (rising_of (stock_of ks) f.moves.items).stock) (order_in f.graph))) same
-          ∙ ap (λ xs. some_over Which.Members 1024 (map (member_count (rising_of (stock hs) xs).stock) (order_in f.graph))) moves_are
-          ∙ ap (λ x. some_over Which.Members 1024 (map (member_count (rising_of (stock hs) ms).stock) (order_in x))) graph_is
-          ∙ members ∙ sym members_are;
       turning = subst (λ x. MatchOption x (Unit {0}) (MayTurn hs₁)) (sym turned_is) turning;
     };
     lands =
@@ -270,19 +257,21 @@ module _ (hs : List Held) (graph : List (List ℕ)) (counts : Counts) (kept : Is
 
   -- once the way is gone
   pub record Ends (hs₂ : List Held) (ms : List Move) : Type 0 where
-    pub fault : first_some (stock_limits (landed_from (stock hs) f).stock) ≡ limit_of None (counts_after counts ms) f.members
-    pub group : (plan : Plan) → plan.moves ≡ ms → plan.turned ≡ f.turned → plan.graph ≡ f.graph → plan.counts ≡ counts_after counts ms → plan.versions ≡ map told ms → limit_of None (counts_after counts ms) f.members ≡ None
+    pub there : Each (λ b. b < length hs₂) (order_in f.graph)
+    pub fault : first_some (stock_limits (landed_from (stock hs) f).stock) ≡ limit_of None (counts_after counts ms) (over_then hs₂ ms (order_in f.graph))
+    pub group : (plan : Plan) → plan.moves ≡ ms → plan.turned ≡ f.turned → plan.graph ≡ f.graph → plan.counts ≡ counts_after counts ms → plan.versions ≡ map told ms → limit_of None (counts_after counts ms) (over_then hs₂ ms (order_in f.graph)) ≡ None
         → IsPlanned hs₂ plan × (outcome (stock hs) plan ≡ (landed_from (stock hs) f).stock) × (plan.versions ≡ versions_made (landed_from (stock hs) f))
 
   pub ended_on_way : (hs₂ : List Held) (ms : List Move) → ((v : Route) (done : List ℕ) → IsRoute v order → Climbs v [] done hs f.moves.items → HasClimbed v order hs₂ ms (Ok tt)) → Ends hs₂ ms
   ended_on_way hs₂ ms climbed =
       let end : HasClimbed the_way (order_in f.graph) hs₂ ms (Ok tt) = climbed_by hs₂ ms (Ok tt) climbed in
       record {
-        fault = fault_is hs graph counts kept f.graph f.moves.items begun.begins.0 begun.begins.1 begun.begins.2 hs₂ end.0 ms end.1 f.turned begun.turning f.members begun.members;
+        there = order_held hs graph counts kept f.graph f.moves.items begun.begins.0 begun.begins.1 begun.begins.2 hs₂ end.0 ms end.1;
+        fault = fault_is hs graph counts kept f.graph f.moves.items begun.begins.0 begun.begins.1 begun.begins.2 hs₂ end.0 ms end.1 f.turned begun.turning;
         group = λ plan moves turned graph_is counts_are versions limit. (
-          group_planned hs graph counts kept f.graph f.moves.items begun.begins.0 begun.begins.1 begun.begins.2 hs₂ end.0 ms end.1 f.turned begun.turning f.members begun.members plan moves turned graph_is counts_are versions limit,
-          outcome_is hs graph counts kept f.graph f.moves.items begun.begins.0 begun.begins.1 begun.begins.2 hs₂ end.0 ms end.1 f.turned begun.turning f.members begun.members plan moves turned graph_is counts_are versions limit,
-          versions_are hs graph counts kept f.graph f.moves.items begun.begins.0 begun.begins.1 begun.begins.2 hs₂ end.0 ms end.1 f.turned begun.turning f.members begun.members plan moves turned graph_is counts_are versions limit,
+          group_planned hs graph counts kept f.graph f.moves.items begun.begins.0 begun.begins.1 begun.begins.2 hs₂ end.0 ms end.1 f.turned begun.turning plan moves turned graph_is counts_are versions limit,
+          outcome_is hs graph counts kept f.graph f.moves.items begun.begins.0 begun.begins.1 begun.begins.2 hs₂ end.0 ms end.1 f.turned begun.turning plan moves turned graph_is counts_are versions limit,
+          versions_are hs graph counts kept f.graph f.moves.items begun.begins.0 begun.begins.1 begun.begins.2 hs₂ end.0 ms end.1 f.turned begun.turning plan moves turned graph_is counts_are versions limit,
         );
       }
 

@@ -16,12 +16,13 @@ use Rattle.ed_held.specs.Making.{known_grown}
 use Rattle.ed_climb.specs.Group.{known_moved, set_known}
 use Rattle.ed_climb.specs.Kept.{IsKept}
 use Rattle.ed_risen.specs.Laws.{OneVector}
-use Rattle.ed_held.specs.Moves.{step_of, AreApart, changes_of, move_of, rising_of, snapshot_of, with_move}
+use Rattle.ed_held.specs.Moves.{step_of, AreApart, move_of, rising_of, snapshot_of, with_move}
 use Rattle.ed_risen.specs.Rising.{HasStepped, IsSettled, Rises}
 use Rattle.ed_climb.specs.Route.{IsNewest, newest}
 use Rattle.ed_held.specs.Seen.{Known, known, stock, stock_of}
 use Rattle.ed_climb.specs.declared.counts.Counts.{Counts}
 use Rattle.ed_held.specs.declared.held.Held.{Held}
+use Rattle.ed_held.proofs.KindLemmas.{texts_count}
 use Rattle.ed_held.specs.declared.moves.Move.{Move}
 use Rattle.ed_climb.proofs.Committed.{stock_folded}
 use Rattle.ed_risen.proofs.Settled.{one_vector, settles}
@@ -30,12 +31,10 @@ use Rattle.ed_risen.proofs.Lists.{clash}
 use Rattle.ed_climb.proofs.Moved.{step_of_move}
 use Rattle.ed_risen.proofs.Texts.{same_text}
 use Rattle.ed_climb.proofs.Snapshots.{found_buffer, found_each}
-use Rattle.ed_base.specs.ChangeList.{step}
-use Rattle.ed_risen.proofs.Turns.{turns}
 
 -- ---- what is known of one buffer then
 
-abbrev grown_by : List Move → ℕ → Known → Known
+abbrev pub grown_by : List Move → ℕ → Known → Known
 grown_by ms b k = option_map_or (λ m. known_grown k m) (move_of ms b) k
 
 none_found : (ms : List Move) (b : ℕ) → Each (λ n. n.buffer ≢ b) ms → move_of ms b ≡ None
@@ -91,11 +90,6 @@ push_get (z ∷ zs) x y (suc v) h = elim (push_get zs x y v h) [
   | inr e ↦ inr (ap suc e.0, e.1)
 ]
 
--- of each buffer as many texts as records
-as_many_texts : (h : Held) → length (known h).texts ≡ length (known h).buffer.records
-as_many_texts (Held.Base x) = length-map x.chain.versions _ ∙ sym (length-map x.chain.versions _)
-as_many_texts (Held.Projection p turns) = length-map p.versions _ ∙ sym (length-map p.versions _)
-
 held_of : (hs : List Held) (b : ℕ) (k : Known) → slice_get (map known hs) b ≡ Some k → (h : Held) × (known h ≡ k)
 held_of [] b k is = absurd (cc)
 held_of (h ∷ hs) zero k is = (h, (cc))
@@ -147,7 +141,7 @@ module _ (hs hs' : List Held) (same : map known hs' ≡ map known hs) (graph gra
   old_text : (b v : ℕ) (k : Known) (x : List ℕ) → slice_get (map known hs) b ≡ Some k → slice_get k.texts v ≡ Some x → text_at t b v ≡ x
   old_text b v k x is got =
       let h : (h : Held) × (known h ≡ k) = held_of hs b k is in
-      let long : length k.texts ≡ length k.buffer.records = subst (λ (y : Known). length y.texts ≡ length y.buffer.records) h.1 (as_many_texts h.0) in
+      let long : length k.texts ≡ length k.buffer.records = subst (λ (y : Known). length y.texts ≡ length y.buffer.records) h.1 (texts_count h.0) in
       let below : v < length k.texts = slice_get_within k.texts v x got in
       let there : v < length (buffer s b).records = subst (λ (y : Buffer). v < length y.records) (sym (known_at hs b k is)) (omega arith) in
       same_text (record_at s) (record_at t) rises.extends b v (kept.settled.founded b v there) ∙ kept.texts b v k x is got
@@ -155,7 +149,7 @@ module _ (hs hs' : List Held) (same : map known hs' ≡ map known hs) (graph gra
   new_text : (b v : ℕ) (k : Known) (m : Move) (x : List ℕ) → slice_get (map known hs) b ≡ Some k → move_of ms b ≡ Some m → v ≡ length k.texts → x ≡ (snapshot_of m.planned).text → text_at t b v ≡ x
   new_text b v k m x is found at same_x =
       let h : (h : Held) × (known h ≡ k) = held_of hs b k is in
-      let long : length k.texts ≡ length k.buffer.records = subst (λ (y : Known). length y.texts ≡ length y.buffer.records) h.1 (as_many_texts h.0) in
+      let long : length k.texts ≡ length k.buffer.records = subst (λ (y : Known). length y.texts ≡ length y.buffer.records) h.1 (texts_count h.0) in
       let was : length (buffer s b).records ≡ length k.buffer.records = ap (λ (y : Buffer). length y.records) (known_at hs b k is) in
       let stepped : HasStepped s t b (step_of m) = rises.moved b (step_of m) (step_of_move ms b ∙ ap (option_map (λ n. step_of n)) found) in
       let longer : length (buffer t b).records ≡ suc (length (buffer s b).records) = stepped.longer in

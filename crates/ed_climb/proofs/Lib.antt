@@ -12,6 +12,7 @@ pub mod Routes
 pub mod Refused
 pub mod AddedUp
 pub mod Leaving
+pub mod CountedThen
 pub mod Within
 pub mod TurnedKept
 pub mod Groups

@@ -13,7 +13,7 @@ use Rattle.ed_graph.proofs.Fuel.{within_rounds}
 use Rattle.ed_stock.specs.Stock.{Stock, count, graph_order, record_now, sources_now}
 use Rattle.ed_risen.specs.Rising.{IsSettled}
 use Rattle.ed_climb.specs.Route.{AllKeepTheirs, AreTrue, IsReached, IsRoute, Route}
-use Rattle.ed_held.specs.Seen.{known, stock, stock_of, Known}
+use Rattle.ed_held.specs.Seen.{stock_of}
 use Rattle.ed_risen.proofs.Growth.{missing}
 use Rattle.ed_risen.proofs.Order.{Comes, order_all, order_comes}
 use Rattle.ed_risen.proofs.Lists.{get_past, index_map, index_past, each_of}

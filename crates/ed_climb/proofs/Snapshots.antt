@@ -1,21 +1,19 @@
 -- The snapshots and steps that a buffer on the way is shown.
-use Rattle.std.proofs.Common.{◌≡◌, ℕ, zero, suc, ◌+◌, ◌-◌, ◌<◌, ◌≤◌, Bool, true, false, inl, inr, List, [], ◌∷◌, length, map, Option, Some, None, refl, sym, ap, ◌∙◌, subst, arith}
+use Rattle.std.proofs.Common.{◌≡◌, ℕ, ◌+◌, ◌-◌, ◌<◌, ◌≤◌, Bool, true, false, inl, inr, List, [], ◌∷◌, length, map, Option, Some, None, refl, sym, ap, ◌∙◌, subst}
 use Rattle.std.specs.Prelude.{All, slice_get, unwrap_or, nat_eq, MatchOption, if◌then◌else◌}
 use Rattle.std.specs.Option.{option_map_or}
 use Rattle.std.specs.List.{AllByRecursion as Each, enumerate_from}
 use Rattle.std.proofs.lemmas.Bool.{eqb-true}
-use Rattle.std.proofs.lemmas.List.{length-map}
 use Rattle.ed_base.specs.declared.Member.{Member}
 use Rattle.ed_base.specs.declared.Span.{Span}
 use Rattle.ed_base.specs.declared.SpanMode.{SpanMode}
 use Rattle.ed_base.specs.Spans.{end_of}
-use Rattle.ed_layers.specs.Records.{base, version_in}
+use Rattle.ed_layers.specs.Records.{version_in}
 use Rattle.ed_layers.specs.Cells.{text}
 use Rattle.ed_layers.specs.SourceStep.{SourceStep, trail_at, ends_with}
 use Rattle.ed_layers.specs.Bounds.{Placed, member_after, new_bounds, placed_on}
 use Rattle.ed_layers.specs.Owning.{Owns}
 use Rattle.ed_members.specs.Moving.{EndsInOld, EndsInNew}
-use Rattle.ed_project.specs.Records.{Projection, record_of, shown, shown_now}
 use Rattle.ed_project.specs.Texts.{HasSource, found_text, text_in, versions_of}
 use Rattle.ed_stock.specs.Stock.{Stock, Buffer, buffer, now, record_at, record_now, text_at, text_now, count}
 use Rattle.ed_stock.specs.Versions.{at_now}
@@ -25,7 +23,8 @@ use Rattle.ed_held.specs.declared.moves.Move.{Move}
 use Rattle.ed_held.specs.Moves.{move_of, newest_of, snapshot_now}
 use Rattle.ed_risen.specs.Rising.{EndsIn, IsSettled, HasStepped}
 use Rattle.ed_climb.specs.Route.{AreTrue, KeepTheirs, newest}
-use Rattle.ed_held.specs.Seen.{known, seen, stock, text_of}
+use Rattle.ed_held.specs.Seen.{Known, known, last_of, stock, text_of}
+use Rattle.ed_held.proofs.KindLemmas.{texts_count}
 use Rattle.ed_risen.proofs.Settled.{all_of}
 use Rattle.ed_risen.proofs.FoundedLemmas.{each_weaker, each_version}
 use Rattle.ed_risen.proofs.Lengths.{ArePlain, no_trail}
@@ -36,18 +35,11 @@ use Rattle.ed_risen.proofs.Lists.{get_map}
 
 -- ---- buffers that are held
 
-pub held_buffer : (hs : List Held) (b : ℕ) (h : Held) → slice_get hs b ≡ Some h → buffer (stock hs) b ≡ seen h
-held_buffer hs b h is = ap (λ o. unwrap_or o missing) (get_map (λ k. k.buffer) (map known hs) b (known h) (get_map known hs b h is) ∙ ap Some (by h))
-  where
-    by : (x : Held) → (known x).buffer ≡ seen x
-    by (Held.Base x) = refl
-    by (Held.Projection p turns) = refl
+pub held_buffer : (hs : List Held) (b : ℕ) (h : Held) → slice_get hs b ≡ Some h → buffer (stock hs) b ≡ (known h).buffer
+held_buffer hs b h is = ap (λ o. unwrap_or o missing) (get_map (λ (k : Known). k.buffer) (map known hs) b (known h) (get_map known hs b h is))
 
-pub held_record : (hs : List Held) (b : ℕ) (p : Projection) (turns : ℕ) → slice_get hs b ≡ Some (Held.Projection p turns) → 0 < length p.versions → record_now (stock hs) b ≡ record_of (shown_now p)
-held_record hs b p turns is some =
-    ap (λ (x : Buffer). unwrap_or (slice_get x.records (length x.records - 1)) (base [] 0)) (held_buffer hs b (Held.Projection p turns) is)
-    ∙ ap (λ n. unwrap_or (slice_get (map record_of p.versions) (n - 1)) (base [] 0)) (length-map p.versions record_of)
-    ∙ ap (λ o. unwrap_or o (base [] 0)) (get_map record_of p.versions (length p.versions - 1) (shown_now p) (get_last p.versions some (shown [] [] [])))
+pub held_record : (hs : List Held) (b : ℕ) (h : Held) → slice_get hs b ≡ Some h → record_now (stock hs) b ≡ last_of (known h).buffer
+held_record hs b h is = ap last_of (held_buffer hs b h is)
 
 -- ---- the current versions
 
@@ -55,29 +47,26 @@ abbrev newest_at : ℕ → ℕ → List ℕ → Snapshot
 newest_at b w u = record { buffer = b; version = w; text = u }
 
 module _ (hs : List Held) (true_ : AreTrue (map known hs)) (settled : IsSettled (stock hs)) where
-  -- the texts are all there
-  texts_there : (h : Held) → length (known h).texts ≡ length (seen h).records
-  texts_there (Held.Base x) = length-map x.chain.versions _ ∙ sym (length-map x.chain.versions _)
-  texts_there (Held.Projection p turns) = length-map p.versions _ ∙ sym (length-map p.versions _)
-
-  now_of : (h : Held) → newest_of (known h) ≡ record { buffer = (known h).number; version = length (seen h).records - 1; text = text_of (known h) (length (seen h).records - 1) }
-  now_of (Held.Base x) = refl
-  now_of (Held.Projection p turns) = refl
-
   pub snapshot_is : (b : ℕ) (h : Held) → slice_get hs b ≡ Some h → b < count (stock hs) → snapshot_now hs b ≡ newest (stock hs) b
   snapshot_is b h is there =
       let k : slice_get (map known hs) b ≡ Some (known h) = get_map known hs b h is in
-      let buf : buffer (stock hs) b ≡ seen h = held_buffer hs b h is in
+      let buf : buffer (stock hs) b ≡ (known h).buffer = held_buffer hs b h is in
+      let n : ℕ = length (known h).buffer.records in
       let some : 0 < length (buffer (stock hs) b).records = settled.some b there in
-      let last : slice_get (known h).texts (length (seen h).records - 1) ≡ Some (text_of (known h) (length (seen h).records - 1)) =
-      ap (λ n. slice_get (known h).texts (n - 1)) (sym (texts_there h)) ∙ get_last (known h).texts (rw (texts_there h) (subst (λ x. 0 < length x.records) buf some)) [] ∙ ap (λ n. Some (text_of (known h) (n - 1))) (texts_there h) in
-      let now_is : now (stock hs) b ≡ length (seen h).records - 1 = ap (λ (x : Buffer). length x.records - 1) buf in
-      let text_is : text_of (known h) (length (seen h).records - 1) ≡ text_now (stock hs) b =
-      sym (true_.texts b (length (seen h).records - 1) (known h) (text_of (known h) (length (seen h).records - 1)) k last) ∙ ap (text_at (stock hs) b) (sym now_is) in
-      rw is (now_of h ∙ whole (known h).number b (length (seen h).records - 1) (now (stock hs) b) (text_of (known h) (length (seen h).records - 1)) (text_now (stock hs) b) (true_.numbered b (known h) k) (sym now_is) text_is)
+      let last : slice_get (known h).texts (n - 1) ≡ Some (text_of (known h) (n - 1)) =
+      ap (λ k. slice_get (known h).texts (k - 1)) (sym (texts_count h)) ∙ get_last (known h).texts (rw (texts_count h) (subst (λ (x : Buffer). 0 < length x.records) buf some)) [] ∙ ap (λ k. Some (text_of (known h) (k - 1))) (texts_count h) in
+      let now_is : now (stock hs) b ≡ n - 1 = ap (λ (x : Buffer). length x.records - 1) buf in
+      let text_is : text_of (known h) (n - 1) ≡ text_now (stock hs) b =
+      sym (true_.texts b (n - 1) (known h) (text_of (known h) (n - 1)) k last) ∙ ap (text_at (stock hs) b) (sym now_is) in
+      rw is (whole (known h).number b (n - 1) (now (stock hs) b) (text_of (known h) (n - 1)) (text_now (stock hs) b) (true_.numbered b (known h) k) (sym now_is) text_is)
     where
       whole : (a b v w : ℕ) (t u : List ℕ) → a ≡ b → v ≡ w → t ≡ u → (record { buffer = a; version = v; text = t }) ≡ newest_at b w u
       whole a b v w t u e f g = rw (e, f, g) refl
+
+  -- the text that is kept as the current one is the one that the definitions give
+  pub text_held : (b : ℕ) (h : Held) → slice_get hs b ≡ Some h → b < count (stock hs) → text_of (known h) (length (known h).buffer.records - 1) ≡ text_now (stock hs) b
+  text_held b h is there =
+      ap (λ o. (option_map_or (λ (x : Held). newest_of (known x)) o (newest_at b 0 [])).text) (sym is) ∙ ap (λ (y : Snapshot). y.text) (snapshot_is b h is there)
 
 -- ---- once some have moved
 

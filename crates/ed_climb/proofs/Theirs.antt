@@ -1,5 +1,5 @@
 -- Where the first versions have no units that were sent, no member owns any on the way.
-use Rattle.std.proofs.Common.{◌≡◌, ℕ, List}
+use Rattle.std.proofs.Common.{ℕ, List}
 use Rattle.ed_stock.specs.Stock.{Stock}
 use Rattle.ed_stock.specs.Versions.{Rising, step_in}
 use Rattle.ed_risen.proofs.Lengths.{ArePlain}

@@ -2,25 +2,24 @@
 use Rattle.std.proofs.Common.{◌≡◌, ℕ, true, false, ◌⊎◌, inl, inr, List, [], ◌∷◌, ◌++◌, map, Option, Some, Ok, Err, refl, sym, ap, ◌∙◌, subst}
 use Rattle.std.specs.Prelude.{Result, ◌<◌, ◌^◌, None, slice_get, if◌then◌else◌}
 use Rattle.std.proofs.lemmas.Bool.{cases_Bool, cases_lt, lt-ltb, le-ltb}
-use Rattle.ed_layers.specs.Records.{members_len}
+use Rattle.ed_layers.specs.Records.{members_len, members_of}
 use Rattle.ed_layers.specs.SourceStep.{SourceStep}
 use Rattle.ed_members.specs.declared.SourceStep.{SourceStep as SourceSteps}
 use Rattle.ed_members.specs.Steps.{step_seen, steps_seen}
-use Rattle.ed_project.specs.Records.{Next}
 use Rattle.ed_project.specs.Planning.{too_long}
 use Rattle.ed_project.specs.declared.ProjectionFault.{ProjectionFault}
 use Rattle.ed_stock.specs.Versions.{is_moved, step_in}
 use Rattle.ed_held.specs.declared.held.Held.{Held}
 use Rattle.ed_held.specs.declared.moves.Move.{Move}
+use Rattle.ed_held.specs.declared.moves.Planned.{Planned}
 use Rattle.ed_pieces.specs.declared.trails.TrailRun.{TrailRun}
-use Rattle.ed_climb.specs.Climbing.{CanRise, HasRisen, HasRisenWith, HasTurned, Rested, TurnedBy, WentAlong, goes, move_to}
-use Rattle.ed_held.specs.Advancing.{members_next}
+use Rattle.ed_climb.specs.Climbing.{CanRise, HasRisen, HasRisenWith, HasTurned, Rested, TurnedBy, WentAlong, goes, move_to, record_after}
 use Rattle.ed_climb.specs.Route.{Climbs, IsRoute, IsTooLong, Route}
-use Rattle.ed_held.specs.Seen.{stock, stock_of, Known, seen}
+use Rattle.ed_held.specs.Seen.{known, stock_of}
 use Rattle.ed_climb.proofs.Climb.{can_rise, climbs_on, moves_here, passes}
 use Rattle.ed_held.specs.Moves.{move_seen, rising_of}
 use Rattle.ed_climb.proofs.Moved.{seen_steps}
-use Rattle.ed_risen.proofs.Turns.{rests, turns}
+use Rattle.ed_risen.proofs.Turns.{rests}
 
 pub steps_are : (shown steps : List SourceSteps) (ms : List Move) → shown ≡ steps → map (λ x. (x.source, step_seen x)) steps ≡ map move_seen ms → steps_seen shown ≡ step_in (map move_seen ms)
 steps_are shown steps ms same seen = ap steps_seen same ∙ seen_steps steps ∙ ap step_in seen
@@ -41,7 +40,7 @@ module _ (hs hs' : List Held) (ms ms' : List Move) (b : ℕ) (h : Held) where
 pub can_turn : (hs : List Held) (shown_moves ms : List Move) (steps : ℕ → Option SourceStep) (h : Held) → shown_moves ≡ ms → steps ≡ step_in (map move_seen ms) → CanRise hs ms (step_in (map move_seen ms)) h → CanRise hs shown_moves steps h
 can_turn hs shown_moves ms steps h same is can = subst (λ xs. CanRise hs xs steps h) (sym same) (subst (λ f. CanRise hs ms f h) (sym is) can)
 
-pub has_turned : (hs hs' : List Held) (shown_moves ms : List Move) (steps : ℕ → Option SourceStep) (b : ℕ) (h : Held) (result : Result (Next × List TrailRun) ProjectionFault) → shown_moves ≡ ms → steps ≡ step_in (map move_seen ms) → HasRisenWith hs hs' shown_moves steps b h result → HasRisenWith hs hs' ms (step_in (map move_seen ms)) b h result
+pub has_turned : (hs hs' : List Held) (shown_moves ms : List Move) (steps : ℕ → Option SourceStep) (b : ℕ) (h : Held) (result : Result (Planned × List TrailRun) ProjectionFault) → shown_moves ≡ ms → steps ≡ step_in (map move_seen ms) → HasRisenWith hs hs' shown_moves steps b h result → HasRisenWith hs hs' ms (step_in (map move_seen ms)) b h result
 has_turned hs hs' shown_moves ms steps b h result same is risen = subst (λ f. HasRisenWith hs hs' ms f b h result) is (subst (λ xs. HasRisenWith hs hs' xs steps b h result) same risen)
 
 -- ---- on the way
@@ -66,22 +65,18 @@ module _ (w : Route) (order : List ℕ) (route : IsRoute w order) (passed rest :
       let p : (done' : List ℕ) × Climbs w (passed ++ b ∷ []) done' hs ms = passes w order route passed done hs ms climbs rest b split rests in
       (p.0, subst (λ xs. Climbs w (passed ++ b ∷ []) p.0 xs ms') (sym same.0) (subst (λ xs. Climbs w (passed ++ b ∷ []) p.0 hs xs) (sym same.1) p.1))
 
-  went_on : is_moved (rising_of (stock_of w.before) ms) b ≡ true → (x : Held) → h ≡ x → (n : Next) (ways : List TrailRun) → ms' ≡ ms ++ move_to b n ways ∷ [] → HasRisenWith hs hs' ms (step_in (map move_seen ms)) b x (Ok (n, ways)) → Passed
+  went_on : is_moved (rising_of (stock_of w.before) ms) b ≡ true → (p : Planned) (ways : List TrailRun) → ms' ≡ ms ++ move_to b p ways ∷ [] → HasRisenWith hs hs' ms (step_in (map move_seen ms)) b h (Ok (p, ways)) → Passed
   unfolding Passed
-  went_on moved (Held.Base x) is n ways pushed with_ways = absurd with_ways.0
-  went_on moved (Held.Projection p turns) is n ways pushed with_ways =
-      let risen : HasRisen hs hs' ms (step_in (map move_seen ms)) b (Held.Projection p turns) (Ok n) = with_ways.0 in
-      let on : Climbs w (passed ++ b ∷ []) (b ∷ done) hs' (ms ++ move_to b n ways ∷ []) =
-      climbs_on w order route passed done hs ms climbs rest b split h held moved p risen.0 turns is n risen.3 risen.4 risen.2 risen.5 risen.6 with_ways.1 ways with_ways.2 hs' risen.1 in
+  went_on moved p ways pushed risen =
+      let on : Climbs w (passed ++ b ∷ []) (b ∷ done) hs' (ms ++ move_to b p ways ∷ []) = climbs_on w order route passed done hs ms climbs rest b split h held moved hs' p risen.0 risen.1 ways risen.2 in
       (b ∷ done, subst (λ xs. Climbs w (passed ++ b ∷ []) (b ∷ done) hs' xs) (sym pushed) on)
 
-  stopped : is_moved (rising_of (stock_of w.before) ms) b ≡ true → (x : Held) → h ≡ x → (e : ProjectionFault) → HasRisen hs hs' ms (step_in (map move_seen ms)) b x (Err e) → (e ≡ ProjectionFault.OutOfMemory) ⊎ ((len : ℕ) × (e ≡ ProjectionFault.Units len) × IsTooLong w order len)
-  stopped moved (Held.Base x) is e risen = inl risen
-  stopped moved (Held.Projection p turns) is e (inl oom) = inl oom
-  stopped moved (Held.Projection p turns) is e (inr long) =
-      let n : ℕ = members_len (members_next (step_in (map move_seen ms)) p) in
+  stopped : is_moved (rising_of (stock_of w.before) ms) b ≡ true → (e : ProjectionFault) → HasRisen hs hs' ms (step_in (map move_seen ms)) b h (Err e) → (e ≡ ProjectionFault.OutOfMemory) ⊎ ((len : ℕ) × (e ≡ ProjectionFault.Units len) × IsTooLong w order len)
+  stopped moved e (inl oom) = inl oom
+  stopped moved e (inr long) =
+      let n : ℕ = members_len (members_of (record_after hs ms (step_in (map move_seen ms)) (known h))) in
       let f : (e ≡ ProjectionFault.Units n) × (2 ^ 22 < n) = long_of n e long.0 in
-      inr (n, f.0, record { passed = passed; rest = rest; b = b; done = done; hs = hs; ms = ms; p = p; turns = turns; split = split; climbs = climbs; held = held ∙ ap Some is; moved = moved; len_is = refl; long = f.1; ends = long.1 })
+      inr (n, f.0, record { passed = passed; rest = rest; b = b; done = done; hs = hs; ms = ms; h = h; split = split; climbs = climbs; held = held; moved = moved; len_is = refl; long = f.1; ends = long.1 })
 
   moved_is : goes ms b h ≡ is_moved (rising_of (stock_of w.before) ms) b
   moved_is = moves_here w order route passed done hs ms climbs rest b split h held
@@ -90,7 +85,7 @@ module _ (w : Route) (order : List ℕ) (route : IsRoute w order) (passed rest :
   unfolding Passed
   turned_on x turned = elim (cases_Bool (goes ms b h)) [
     | inl does ↦ (let a : WentAlong hs hs' ms ms' b h (Ok x) = along_of hs hs' ms ms' b h (Ok x) does turned in
-        went_on (sym moved_is ∙ does) h refl a.0 a.1 a.2 a.3)
+        went_on (sym moved_is ∙ does) a.0 a.1 a.2 a.3)
     | inr doesn't ↦ rested_on (sym moved_is ∙ doesn't) (rested_of hs hs' ms ms' b h (Ok x) doesn't turned)
   ]
 
@@ -98,7 +93,7 @@ module _ (w : Route) (order : List ℕ) (route : IsRoute w order) (passed rest :
   turn_failed e turned = elim (cases_Bool (goes ms b h)) [
     | inl does ↦ elim (along_of hs hs' ms ms' b h (Err e) does turned) [
       | inl oom ↦ inl oom
-      | inr risen ↦ stopped (sym moved_is ∙ does) h refl e risen
+      | inr risen ↦ stopped (sym moved_is ∙ does) e risen
     ]
     | inr doesn't ↦ inl (rested_of hs hs' ms ms' b h (Err e) doesn't turned)
   ]

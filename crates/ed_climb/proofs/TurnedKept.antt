@@ -1,38 +1,26 @@
 -- A stock of which one buffer has turned once more is kept.
-use Rattle.std.proofs.Common.{◌≡◌, ℕ, ◌-◌, ◌<◌, ◌≤◌, ◌^◌, Bool, true, false, List, [], ◌∷◌, length, map, Option, Some, None, refl, sym, ap, ◌∙◌, subst, length-set, ◌+◌, arith}
-use Rattle.std.specs.Prelude.{nat_eq, option_map, slice_get, slice_set, unwrap_or, if◌then◌else◌, MatchOption}
+use Rattle.std.proofs.Common.{◌≡◌, ℕ, ◌<◌, Bool, true, false, List, length, map, Option, Some, None, refl, sym, ap, ◌∙◌, subst, length-set}
+use Rattle.std.specs.Prelude.{nat_eq, option_map, slice_get, slice_set, if◌then◌else◌, MatchOption}
 use Rattle.std.specs.Option.{option_map_or}
-use Rattle.std.specs.List.{AllByRecursion as Each}
-use Rattle.ed_base.specs.declared.Member.{Member}
-use Rattle.ed_base.specs.declared.Which.{Which}
 use Rattle.ed_base.specs.Numbers.{first_some, places}
-use Rattle.ed_base.specs.Spans.{end_of}
-use Rattle.ed_layers.specs.Cells.{text, vector}
-use Rattle.ed_layers.specs.Graph as order
-use Rattle.ed_layers.specs.Records.{Record, base, elision, members_of, projection, sources_of, is_carrier}
-use Rattle.ed_stock.specs.Limits.{inserted, over, placements, some_over, stock_limits, versions}
-use Rattle.ed_stock.specs.Stock.{Stock, buffer, count, graph_order, now, record_at, record_now, sources_now, text_at, text_now, Buffer}
+use Rattle.ed_layers.specs.Cells.{text}
+use Rattle.ed_stock.specs.Limits.{inserted, placements, stock_limits, versions}
+use Rattle.ed_stock.specs.Stock.{buffer, count, sources_now, text_at}
 use Rattle.ed_climb.specs.declared.counts.Counts.{Counts}
-use Rattle.ed_risen.specs.Founded.{Founded}
-use Rattle.ed_held.specs.Making.{known_turned, IsProjection}
+use Rattle.ed_held.specs.Making.{known_turned, CanTurn}
 use Rattle.ed_climb.specs.Group.{set_known, MayTurn}
 use Rattle.ed_risen.specs.Counting.{turn, turned_in}
 use Rattle.ed_climb.specs.Kept.{IsKept}
-use Rattle.ed_risen.specs.Laws.{HasOneVersionEach, OneVector}
-use Rattle.ed_risen.specs.Rising.{EndsIn, Inside, IsNow, IsSettled}
-use Rattle.ed_held.specs.Seen.{Known, stock_of, known, last_of, stock}
+use Rattle.ed_risen.specs.Laws.{OneVector}
+use Rattle.ed_risen.specs.Rising.{IsSettled}
+use Rattle.ed_held.specs.Seen.{Known, stock_of, known, stock}
 use Rattle.ed_climb.proofs.Committed.{stock_set}
 use Rattle.ed_risen.proofs.Counting.{inserted_turned, placements_turned, versions_turned}
-use Rattle.ed_risen.proofs.FoundedLemmas.{each_weaker}
 use Rattle.ed_climb.proofs.Leaving.{set_at}
-use Rattle.ed_risen.proofs.Turning.{turned_records, same_names, same_records, turned_limits, turned_one, turned_settled}
-use Rattle.ed_held.proofs.KindLemmas.{base_last, projection_last}
+use Rattle.ed_risen.proofs.Turning.{same_names, same_records, turned_limits, turned_one, turned_settled}
+use Rattle.ed_held.proofs.KindLemmas.{turn_kept}
 use Rattle.ed_climb.proofs.Asked.{held_at, held_is, held_some}
-use Rattle.ed_risen.proofs.Lists.{clash}
-use Rattle.ed_risen.proofs.Turns.{turns}
 use Rattle.ed_held.specs.declared.held.Held.{Held}
-use Rattle.std.proofs.lemmas.List.{length-map}
-use Rattle.ed_project.specs.Records.{record_of as projection_record}
 
 -- of what is known
 module _ (ks : List Known) (b : ℕ) (graph : List (List ℕ)) (counts : Counts) (kept : IsKept ks graph counts) (there : b < count (stock_of ks)) where
@@ -72,20 +60,12 @@ module _ (ks : List Known) (b : ℕ) (graph : List (List ℕ)) (counts : Counts)
     placements = kept.placements ∙ sym (ap placements turned_is ∙ placements_turned (stock_of ks) (Some b) there);
   }
 
-pub turn_kept : (h h₂ : Held) → (known h₂).buffer ≡ (known h).buffer → 0 < length (known h).buffer.records → IsProjection h → IsProjection h₂
-turn_kept (Held.Base x) h₂ same some may = absurd may
-turn_kept (Held.Projection p turns) (Held.Projection p₂ turns₂) same some may = subst (λ k. k + 1 < 2 ^ 32) (sym (ap (λ (x : Buffer). x.turns) same)) may
-turn_kept (Held.Projection p turns) (Held.Base x) same some may =
-    let carrier : is_carrier (last_of (known (Held.Projection p turns)).buffer) ≡ true = ap is_carrier (projection_last p turns (omega (arith, some, length-map p.versions projection_record))) in
-    let bare : is_carrier (last_of (known (Held.Base x)).buffer) ≡ false = base_last x.chain.versions (length (known (Held.Base x)).buffer.records - 1) in
-    absurd (clash (is_carrier (last_of (known (Held.Projection p turns)).buffer)) carrier (ap (λ y. is_carrier (last_of y)) (sym same) ∙ bare))
-
 module _ (hs : List Held) (graph : List (List ℕ)) (counts : Counts) (kept : IsKept (map known hs) graph counts) (b : ℕ) (there : b < count (stock hs)) where
   -- buffers that are known alike turn alike
-  pub may_turn : (hs₂ : List Held) → map known hs₂ ≡ map known hs → ((h : Held) → slice_get hs b ≡ Some h → IsProjection h) → MayTurn hs₂ b
+  pub may_turn : (hs₂ : List Held) → map known hs₂ ≡ map known hs → ((h : Held) → slice_get hs b ≡ Some h → CanTurn h) → MayTurn hs₂ b
   may_turn hs₂ same may =
       let old : (h : Held) × (slice_get hs b ≡ Some h) = held_at hs b there in
       let new : (h : Held) × (slice_get hs₂ b ≡ Some h) = held_at hs₂ b (subst (λ ks. b < count (stock_of ks)) (sym same) there) in
       let kept₂ : IsKept (map known hs₂) graph counts = subst (λ ks. IsKept ks graph counts) (sym same) kept in
-      subst (λ (o : Option Held). MatchOption o ⊥ IsProjection) (sym new.1)
+      subst (λ (o : Option Held). MatchOption o ⊥ CanTurn) (sym new.1)
       (turn_kept old.0 new.0 (held_is hs₂ graph counts kept₂ b new.0 new.1 ∙ ap (λ ks. buffer (stock_of ks) b) same ∙ sym (held_is hs graph counts kept b old.0 old.1)) (held_some hs graph counts kept b old.0 old.1) (may old.0 old.1))

@@ -1,20 +1,14 @@
 -- The limits of a stock that a group leaves.
-use Rattle.std.proofs.Common.{◌≡◌, ℕ, ◌<◌, ◌≤◌, ◌^◌, false, List, [], ◌∷◌, length, map, Option, None, refl, sym, ap, ◌∙◌, subst, le-ltb}
-use Rattle.std.specs.Prelude.{nat_lt, option_map}
+use Rattle.std.proofs.Common.{◌≡◌, ◌^◌, List, [], ◌∷◌, length, map, Option, None, refl, sym, ap}
 use Rattle.ed_base.specs.declared.Refusal.{Refusal}
 use Rattle.ed_base.specs.declared.Which.{Which}
 use Rattle.ed_base.specs.Numbers.{first_some}
-use Rattle.ed_layers.specs.Records.{Record, base, elision, is_elision, projection}
 use Rattle.ed_stock.specs.Limits.{inserted, over, placements, some_over, stock_limits, versions}
-use Rattle.ed_stock.specs.Stock.{Stock, count, graph_order, record_now, text_now}
+use Rattle.ed_stock.specs.Stock.{Stock, count, graph_order, text_now}
 use Rattle.ed_climb.specs.Counted.{AreCounts}
 use Rattle.ed_climb.specs.declared.counts.Counts.{Counts}
 use Rattle.ed_climb.specs.Limited.{limit_of, passed}
-use Rattle.ed_risen.specs.Rising.{Inside, IsSettled}
 use Rattle.ed_held.specs.Seen.{Known, stock_of}
-use Rattle.ed_risen.proofs.MemberCounts.{as_many}
-use Rattle.ed_risen.proofs.OneLimit.{all_within, each_none, none_of, none_past}
-use Rattle.ed_risen.proofs.Order.{in_order, of_order}
 use Rattle.ed_risen.specs.Counting.{member_count}
 use Rattle.ed_climb.proofs.KeptNumbers.{few}
 

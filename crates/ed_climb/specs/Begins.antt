@@ -1,13 +1,12 @@
 -- The first versions of a group, and what they lead to.
 use Rattle.std.specs.Prelude.{◌≡◌, ℕ, List, [], map, false, Option, MatchOption}
 use Rattle.ed_base.specs.declared.refusal.Refusal.{Refusal}
-use Rattle.ed_base.specs.declared.refusal.Which.{Which}
 use Rattle.ed_base.specs.Numbers.{first_some, is_among}
 use Rattle.ed_graph.specs.Standing.{height_in, order_in, sources_in}
 use Rattle.ed_members.specs.Steps.{step_seen}
-use Rattle.ed_risen.specs.Counting.{member_count, turned_in}
+use Rattle.ed_risen.specs.Counting.{turned_in}
 use Rattle.ed_risen.specs.Start.{IsStart}
-use Rattle.ed_stock.specs.Limits.{some_over, stock_limits}
+use Rattle.ed_stock.specs.Limits.{stock_limits}
 use Rattle.ed_stock.specs.Stock.{Stock, sources_now}
 use Rattle.ed_stock.specs.Versions.{Rising, none_given, risen}
 use Rattle.ed_climb.specs.declared.beginning.FirstMoves.{FirstMoves}
@@ -36,11 +35,10 @@ turned_rising turned r = record { stock = turned_in r.stock turned; moves = r.mo
 abbrev pub landed_from : Stock → FirstMoves → Rising
 landed_from s f = turned_rising f.turned (risen none_given (rising_of s f.moves.items))
 
--- A group can begin with these first versions: the members of buffers pass their limit where it is said that they do.
+-- A group can begin with these first versions.
 pub record CanBegin (hs : List Held) (f : FirstMoves) : Type 0 where
   pub begins : (start : List ℕ) × (initial : List ℕ) × Begins (map known hs) hs f.graph f.moves.items start initial
   pub seen : map (λ s. (s.source, step_seen s)) f.steps.items ≡ map move_seen f.moves.items
-  pub members : some_over Which.Members 1024 (map (member_count (rising_of (stock hs) f.moves.items).stock) (order_in f.graph)) ≡ f.members
   pub turning : MatchOption f.turned (Unit {0}) (MayTurn hs)
 
 -- They lead to what the definitions make of the command, and nothing but a limit can forbid it now.

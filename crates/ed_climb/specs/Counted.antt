@@ -1,7 +1,6 @@
 -- What versions that were planned add to the numbers of the stock.
-use Rattle.std.specs.Prelude.{◌≡◌, ℕ, ◌+◌, List, length, fold, count_by}
+use Rattle.std.specs.Prelude.{◌≡◌, ℕ, ◌+◌, List, length, fold}
 use Rattle.ed_base.specs.ChangeList.{inserted_len}
-use Rattle.ed_layers.specs.Records.{Record, is_tracked, members_of}
 use Rattle.ed_stock.specs.Limits.{inserted, placements, versions}
 use Rattle.ed_stock.specs.Stock.{Stock}
 use Rattle.ed_risen.specs.Counting.{tracked_in}

@@ -1,19 +1,17 @@
 -- A group that was planned, and what it leaves.
-use Rattle.std.specs.Prelude.{ℕ, ◌+◌, ◌<◌, ◌^◌, List, [], ◌∷◌, ◌++◌, map, fold, slice_get, slice_set, Option, Some, None, MatchOption}
+use Rattle.std.specs.Prelude.{ℕ, List, map, fold, slice_get, slice_set, Option, MatchOption}
 use Rattle.std.specs.Option.{option_map_or}
 use Rattle.std.specs.List.{AllByRecursion as Each}
-use Rattle.ed_base.specs.Denial.{regions_after}
-use Rattle.ed_base.specs.ChangeList.{step}
-use Rattle.ed_stock.specs.Stock.{Stock, Buffer, buffer, record_at, with_buffer}
+use Rattle.ed_stock.specs.Stock.{Stock, record_at}
 use Rattle.ed_climb.specs.declared.counts.Counts.{Counts}
 use Rattle.ed_held.specs.declared.held.Held.{Held}
 use Rattle.ed_held.specs.declared.moves.Move.{Move}
-use Rattle.ed_risen.specs.Counting.{turn, turned_in}
+use Rattle.ed_risen.specs.Counting.{turned_in}
 use Rattle.ed_risen.specs.Founded.{Extends}
 use Rattle.ed_climb.specs.Kept.{IsKept}
-use Rattle.ed_held.specs.Moves.{AreApart, IsPlannedAt, changes_of, record_of, snapshot_of, with_move}
+use Rattle.ed_held.specs.Moves.{AreApart, IsPlannedAt, with_move}
 use Rattle.ed_held.specs.Seen.{Known, known, stock}
-use Rattle.ed_held.specs.Making.{IsProjection, known_grown, known_turned}
+use Rattle.ed_held.specs.Making.{CanTurn, known_grown, known_turned}
 
 -- The versions that will be made in their order, the buffer whose members were set if one's were, the graph and the numbers that there will be, and the versions as they will be told.
 pub record Plan : Type 0 where
@@ -43,9 +41,9 @@ known_after ks g = known_made ks g.moves g.turned
 
 -- ---- what makes a group one that can be made
 
--- the buffer is a projection whose members can be set once more
+-- the buffer can be changed once more otherwise than by an edit
 abbrev pub MayTurn : List Held → ℕ → Type 0
-MayTurn hs b = MatchOption (slice_get hs b) ⊥ IsProjection
+MayTurn hs b = MatchOption (slice_get hs b) ⊥ CanTurn
 
 -- The versions were planned of these buffers, and what they leave is a stock again, of which no record that was there has changed.
 pub record IsPlanned (hs : List Held) (g : Plan) : Type 0 where

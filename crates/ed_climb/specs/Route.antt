@@ -4,20 +4,19 @@ use Rattle.std.specs.List.{AllByRecursion as Each}
 use Rattle.ed_base.specs.Numbers.{is_among}
 use Rattle.ed_base.specs.declared.piece.Member.{Member}
 use Rattle.ed_layers.specs.Owning.{OwnInside, OwnInOrder}
-use Rattle.ed_layers.specs.Records.{members_len, projection, sources_of}
+use Rattle.ed_layers.specs.Records.{members_len, members_of, projection, sources_of}
 use Rattle.ed_layers.specs.SourceStep.{SourceStep}
 use Rattle.ed_members.specs.Moving.{EndsInNew}
-use Rattle.ed_project.specs.Records.{Projection}
 use Rattle.ed_project.specs.declared.ProjectionFault.{ProjectionFault}
 use Rattle.ed_stock.specs.Stock.{Stock, now, record_now, text_at, text_now, count}
 use Rattle.ed_stock.specs.Versions.{Rising, is_moved, risen_at, none_given, step_in}
 use Rattle.ed_version.specs.declared.Snapshot.{Snapshot}
 use Rattle.ed_held.specs.declared.held.Held.{Held}
 use Rattle.ed_held.specs.declared.moves.Move.{Move}
-use Rattle.ed_held.specs.Advancing.{members_next}
+use Rattle.ed_climb.specs.Climbing.{record_after}
 use Rattle.ed_held.specs.Moves.{AreApart, IsPlannedAt, move_of, move_seen, rising_of, snapshot_of}
 use Rattle.ed_risen.specs.Rising.{IsSettled, Rises}
-use Rattle.ed_held.specs.Seen.{Known, known, stock, stock_of}
+use Rattle.ed_held.specs.Seen.{Known, known, stock_of}
 
 -- The buffers before, their heights, those that may have other sources than before, those that are done before the way begins, and what has happened by then.
 pub record Route : Type 0 where
@@ -87,15 +86,14 @@ pub record IsTooLong (w : Route) (order : List ℕ) (len : ℕ) : Type 0 where
   pub done : List ℕ
   pub hs : List Held
   pub ms : List Move
-  pub p : Projection
-  pub turns : ℕ
+  pub h : Held
   pub split : order ≡ passed ++ b ∷ rest
   pub climbs : Climbs w passed done hs ms
-  pub held : slice_get hs b ≡ Some (Held.Projection p turns)
+  pub held : slice_get hs b ≡ Some h
   pub moved : is_moved (rising_of (stock_of w.before) ms) b ≡ true
-  pub len_is : members_len (members_next (step_in (map move_seen ms)) p) ≡ len
+  pub len_is : members_len (members_of (record_after hs ms (step_in (map move_seen ms)) (known h))) ≡ len
   pub long : 2 ^ 22 < len
-  pub ends : All (EndsInNew (step_in (map move_seen ms))) (members_next (step_in (map move_seen ms)) p)
+  pub ends : All (EndsInNew (step_in (map move_seen ms))) (members_of (record_after hs ms (step_in (map move_seen ms)) (known h)))
 
 -- all of the way is gone, or not, since a text would be too long
 abbrev pub HasClimbed : Route → List ℕ → List Held → List Move → Result (Unit {0}) ProjectionFault → Type 0

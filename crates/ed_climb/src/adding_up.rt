@@ -58,9 +58,9 @@ fn tracked(members: &Members) -> Result<u64, OutOfMemory>
 fn tracked_in(planned: &Planned) -> Result<u64, OutOfMemory>
     ensures { IfOk result (λ n. n ≡ tracked_in (record_of planned.now)) }
 {
-    match planned {
-        Planned::Base(_) => Ok(0),
-        Planned::Projection(next) => tracked(next.members()),
+    match planned.members() {
+        Some(members) => tracked(members),
+        None => Ok(0),
     }
 }
 

@@ -1,6 +1,6 @@
 //! The first versions of a group.
 
-use ed_base::{BufferNo, Refusal};
+use ed_base::BufferNo;
 use ed_graph::Graph;
 use ed_held::Move;
 use ed_members::SourceStep;
@@ -16,6 +16,4 @@ pub struct FirstMoves {
     pub steps: Vec<SourceStep>,
     /// The buffer whose members are set once more, if one's are.
     pub turned: Option<BufferNo>,
-    /// Why a buffer can't have so many members, if one can't.
-    pub members: Option<Refusal>,
 }

@@ -70,7 +70,7 @@ fn turn(
         return Ok(());
     }
     match rise(alloc, buffers, buffer, moves, steps) {
-        Ok((next, trails)) => Ok(add(buffer, Planned::Projection(next), trails, moves, steps)?),
+        Ok((next, trails)) => Ok(add(buffer, next, trails, moves, steps)?),
         Err(fault) => Err(fault),
     }
 }

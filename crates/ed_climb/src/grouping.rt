@@ -19,6 +19,7 @@ use crate::counts::Counts;
 use crate::fault::PlanFault;
 use crate::group::Group;
 use crate::limits::limit;
+use crate::members::members_over;
 use ed_base::{BufferNo, Refusal, Which};
 use ed_graph::Graph;
 use ed_held::{Held, Move};
@@ -26,7 +27,7 @@ use ed_project::ProjectionFault;
 use std::alloc::Global;
 
 /// The group of these versions, where the numbers of the stock don't pass their limits with them, and
-/// no projection has too many members, which is judged before.
+/// no buffer has too many members, which is judged before.
 ///
 /// # Errors
 ///
@@ -98,10 +99,10 @@ pub fn group_from(
         mut moves,
         mut steps,
         turned,
-        members,
     } = first;
     if let Err(fault) = climb(alloc, buffers, graph.order(), &mut moves, &mut steps) {
         return Err(carried(fault));
     }
+    let members = members_over(buffers, &moves, graph.order());
     group_of(alloc, counts, graph, moves, turned, members)
 }

@@ -11,6 +11,7 @@ mod group;
 mod grouping;
 mod limits;
 mod making;
+mod members;
 mod rising;
 mod sources;
 

@@ -3,7 +3,7 @@ ghost use Rattle.std.specs.Prelude.{◌≡◌, ◌≢◌, ℕ, List, length, map
 ghost use Rattle.std.specs.Option.{option_map_or};
 ghost use Rattle.std.specs.List.{AllByRecursion as Each};
 ghost use Rattle.ed_climb.specs.Group.{IsPlanned, MayTurn, known_after, known_made, known_moved, set_known};
-ghost use Rattle.ed_held.specs.Making.{IsProjection, known_grown, known_turned};
+ghost use Rattle.ed_held.specs.Making.{CanTurn, known_grown, known_turned};
 ghost use Rattle.ed_held.specs.Moves.{AreApart, CanMake, IsPlannedAt};
 ghost use Rattle.ed_held.specs.Seen.{known};
 

@@ -17,8 +17,6 @@ use Rattle.ed_stock.specs.Landing.{denial, down_fault, pieces_of_changes, pieces
 use Rattle.ed_stock.specs.Stock as stock
 use Rattle.ed_stock.specs.Stock.{Stock}
 use Rattle.ed_sending.specs.OneCarrierEach.{HasOneCarrierEach}
-use Rattle.ed_sending.proofs.Groups.AcceptedEdit.{IsReady}
-use Rattle.ed_sending.proofs.Groups.OneWay.{NamesLower}
 use Rattle.ed_sending.proofs.Groups.TypedEdit.{stock_after, typed_replaces}
 use Rattle.ed_sending.proofs.Texts.NormalForm.{form_applied}
 use Rattle.ed_script.specs.declared.kinds.Command.{Command}
@@ -31,6 +29,7 @@ use Rattle.ed_machine.specs.Limits.{limit_fault}
 use Rattle.ed_machine.specs.Step.{or_refused, step, told, weighed, within_limits}
 use Rattle.ed_core.specs.Typed.{TypedText}
 use Rattle.ed_core.proofs.Nothing.{nothing_sent, nothing_woven, some_landed}
+use Rattle.ed_sending.specs.Ready.{IsReady, NamesLower}
 
 -- ---- what isn't refused
 
@@ -130,9 +129,9 @@ module _ (hooks : HookTable) (s : State) (name : List ℕ) (replaces : List Repl
 
 -- ---- the clause
 
-pub step-told : (hooks : HookTable) (s : State) (event : Event) (command : Command) → event ≡ Event.Told command → step hooks s event ≡ told hooks s command
+pub step-told : (hooks : HookTable) (s : State) (seat : ℕ) (event : Event) (command : Command) → event ≡ Event.Told command → step hooks s seat event ≡ told hooks s command
 unfolding step
-step-told hooks s event command is = ap (step hooks s) is
+step-told hooks s seat event command is = ap (step hooks s seat) is
 
 pub typed_as : (hooks : HookTable) (s u : State) (event : Event) (o : Outcome) (r : Reply) → ((command : Command) → event ≡ Event.Told command → o ≡ told hooks s command)
     → IsReady s.stock → NamesLower s.stock → length s.names ≡ count s → IsReady u.stock → u ≡ o.state → r ≡ o.reply → TypedText s u event r

@@ -5,16 +5,16 @@ ghost use Rattle.ed_machine.specs.State.{text_now};
 ghost use Rattle.ed_core.specs.Asking.{HasSource, member_asked, members_asked, past_member, past_members};
 
 use crate::state::Core;
-use ed_base::{Member, OutOfMemory, Refusal, ScriptSpan, Span, Units};
+use ed_base::{Member, OutOfMemory, Refusal, ScriptSpan, SharedUnits, Span, Units};
 use std::alloc::Global;
 
-/// A text of the same units.
-fn copied(alloc: Global, units: &Units) -> Result<Units, OutOfMemory>
+/// A text of the same units, which its holders share.
+fn copied(alloc: Global, units: &Units) -> Result<SharedUnits, OutOfMemory>
     ensures { IfOk result (λ u. u ≡ units.now) }
 {
-    let mut text = Units::new(alloc);
-    text.extend(units.as_slice())?;
-    Ok(text)
+    let mut text = Vec::new(alloc);
+    text.extend_from_slice(units.as_slice())?;
+    SharedUnits::of(alloc, text)
 }
 
 impl Core {

@@ -1,9 +1,9 @@
 //! Members of projections that are replaced.
-ghost use Rattle.std.specs.Prelude.{◌≡◌, ◌+◌, ◌<◌, ◌≤◌, true, length, None, All, IfOk, OnOk, OnErr};
+ghost use Rattle.std.specs.Prelude.{◌≡◌, ◌+◌, ◌<◌, ◌≤◌, true, false, length, None, All, IfOk, OnOk, OnErr};
 ghost use Rattle.ed_base.specs.Hooks.{HookTable};
 ghost use Rattle.ed_group.specs.Answers.{LiesIn, members_now};
 ghost use Rattle.ed_risen.specs.Laws.{RecordsStay};
-ghost use Rattle.ed_layers.specs.Records.{is_carrier};
+ghost use Rattle.ed_layers.specs.Records.{is_carrier, is_elision};
 ghost use Rattle.ed_machine.specs.State.{count, record_now};
 ghost use Rattle.ed_machine.specs.Step.{told};
 ghost use Rattle.ed_script.specs.declared.Command.{Command as Told};
@@ -30,7 +30,8 @@ impl Core {
         requires there { buffer < count self.now }
         requires sources { All (HasSource self.now) members.now }
         ensures refusal { result ≡ spans_refusal self.now buffer at.now end members.now }
-        ensures projection { result ≡ None → is_carrier (record_now self.now buffer) ≡ true }
+        ensures carrier { result ≡ None → is_carrier (record_now self.now buffer) ≡ true }
+        ensures plain { result ≡ None → is_elision (record_now self.now buffer) ≡ false }
         ensures part { result ≡ None → end ≤ length (members_now self.now.stock buffer) }
         ensures inside { result ≡ None → All (LiesIn self.now.stock) members.now }
     {
@@ -56,7 +57,8 @@ impl Core {
         members: Vec<Member>,
     ) -> Result<Reply, OutOfMemory>
         requires there { buffer < count self.old }
-        requires projection { is_carrier (record_now self.old buffer) ≡ true }
+        requires carrier { is_carrier (record_now self.old buffer) ≡ true }
+        requires plain { is_elision (record_now self.old buffer) ≡ false }
         requires part { first + removed ≤ length (members_now self.old.stock buffer) }
         requires inside { All (LiesIn self.old.stock) members.items }
         ensures reply { IfOk result (λ r. r ≡ (spans_outcome self.old buffer first removed members.items).reply) }

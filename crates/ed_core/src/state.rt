@@ -2,8 +2,6 @@
 ghost use Rattle.std.specs.Prelude.{◌≡◌, ◌<◌, length, IfSome};
 ghost use Rattle.ed_entry.specs.declared.Reply.{Reply as Answered};
 ghost use Rattle.ed_risen.specs.Laws.{CurrentVector, OneVector, RecordsStay};
-ghost use Rattle.ed_sending.proofs.Groups.AcceptedEdit.{IsReady};
-ghost use Rattle.ed_sending.proofs.Groups.OneWay.{NamesLower};
 ghost use Rattle.ed_machine.specs.State.{empty_state, number_of, count};
 ghost use Rattle.ed_machine.specs.Accepted.{answers};
 ghost use Rattle.ed_machine.specs.Step.{within_limits, weighed};
@@ -35,6 +33,7 @@ impl Model for Core {
     ghost use Rattle.ed_machine.specs.State.{State};
     ghost use Rattle.ed_group.specs.Seen.{stock as stock_seen};
     ghost use Rattle.ed_core.specs.Within.{IsWithin};
+    ghost use Rattle.ed_sending.specs.Ready.{IsReady, NamesLower};
 
     ghost Value = { State };
 

@@ -7,7 +7,7 @@ ghost use Rattle.ed_core.specs.Doing.{Does};
 ghost use Rattle.ed_core.specs.Typed.{TypedText};
 
 use crate::state::Core;
-use ed_base::{OutOfMemory, Span};
+use ed_base::{OutOfMemory, SeatNo, Span, SpanList};
 use ed_callbacks::Hooks;
 use ed_entry::{Event, Reply};
 use ed_script::Command;
@@ -79,15 +79,22 @@ impl Core {
         Ok(self.answer(reply))
     }
 
-    /// Does what an event asks, and answers.
+    /// Does what an event asks, and answers. The event comes from this seat; what it brings along is
+    /// its load, and what a command says is in the event itself.
     ///
     /// # Errors
     ///
     /// Memory was refused; the core is as it was.
     #[tactic(auto, unfolding(ed_machine::specs::Step::step))]
-    pub fn step(&mut self, hooks: &Hooks, event: &Event) -> Result<Reply, OutOfMemory>
-        ensures reply { IfOk result (λ r. r ≡ (step (hook_table hooks.now) self.old event.now).reply) }
-        ensures state { OnOk result (self.new ≡ (step (hook_table hooks.now) self.old event.now).state) }
+    pub fn step(
+        &mut self,
+        hooks: &Hooks,
+        seat: SeatNo,
+        event: &Event,
+        _load: SpanList,
+    ) -> Result<Reply, OutOfMemory>
+        ensures reply { IfOk result (λ r. r ≡ (step (hook_table hooks.now) self.old seat event.now).reply) }
+        ensures state { OnOk result (self.new ≡ (step (hook_table hooks.now) self.old seat event.now).state) }
         ensures err { OnErr result (self.new ≡ self.old) }
         ensures one { OneVector self.new.stock }
         ensures current { CurrentVector self.new.stock }

@@ -1,9 +1,7 @@
 -- What is so of a carrier between groups, and of what it sends.
-use Rattle.std.proofs.Common.{◌≡◌, ℕ, suc, ◌+◌, ◌-◌, ◌<◌, ◌≤◌, ◌^◌, true, false, List, [], ◌∷◌, length, length-append, drop, Some, None, refl, sym, ap, ◌∙◌, subst, arith}
+use Rattle.std.proofs.Common.{◌≡◌, ℕ, suc, ◌+◌, ◌<◌, ◌≤◌, ◌^◌, true, List, [], ◌∷◌, length, Some, None, sym, ap, ◌∙◌, arith}
 use Rattle.std.specs.Prelude.{All, slice_get, sum_by}
-use Rattle.std.proofs.lemmas.List.{length-drop, length-take}
 use Rattle.std.proofs.lemmas.List.Elements.{All-from_recursion, recursion_from_All}
-use Rattle.std.proofs.lemmas.List.Sums.{sum_by-cons}
 use Rattle.ed_base.specs.declared.edit.Span.{Span}
 use Rattle.ed_base.specs.declared.mode.SpanMode.{SpanMode}
 use Rattle.ed_base.specs.declared.piece.Member.{Member}
@@ -11,19 +9,19 @@ use Rattle.ed_base.specs.declared.piece.Piece.{Piece}
 use Rattle.ed_base.specs.Hooks.{HookTable}
 use Rattle.ed_base.specs.Spans.{end_of}
 use Rattle.ed_layers.specs.Pieces.{arrived}
-use Rattle.ed_layers.specs.Records.{Record, base, elision, is_carrier, is_elision, member_len, members_len, members_of, projection}
+use Rattle.ed_layers.specs.Records.{is_carrier, members_len, members_of}
 use Rattle.ed_layers.specs.Sending.{sending_fault, sent}
 use Rattle.ed_pieces.specs.Arrivals.{AllWithin, units_put_in}
 use Rattle.ed_resolve.specs.Faults.{EndsShort}
+use Rattle.ed_risen.proofs.Lengths.{Fits, length_text_over}
 use Rattle.ed_sending.proofs.Lists.SortedParts.{Each, each_more}
 use Rattle.ed_sending.proofs.Carriers.ArrivedUnits.{arrived_units}
-use Rattle.ed_sending.proofs.Carriers.NewText.{AreFitting, text_of, units_of}
-use Rattle.ed_sending.proofs.Groups.AcceptedEdit.{IsReady}
 use Rattle.ed_sending.proofs.Groups.SentInside.{IsInside, sent_inside}
 use Rattle.ed_sending.proofs.Groups.SentUnits.{sent_units}
 use Rattle.ed_stock.specs.Landing.{resolver_of}
 use Rattle.ed_stock.specs.Stock.{Stock, count, record_now, text_now}
 use Rattle.ed_descent.proofs.UnitSums.{all_units}
+use Rattle.ed_sending.specs.Ready.{AreFitting, IsReady}
 
 -- ---- members
 
@@ -37,39 +35,22 @@ each_placed P members k (m ∷ ms) same all = (
 each_member : (P : Member → Type 0) (members : List Member) → ((j : ℕ) (m : Member) → slice_get members j ≡ Some m → P m) → Each P members
 each_member P members all = each_placed P members 0 members (λ d. ap (slice_get members) (let e : d ≡ 0 + d = omega arith in e)) all
 
-text_len : (texts : ℕ → List ℕ) (ms : List Member) → Each (λ m. length (units_of texts m) ≡ member_len m) ms → length (text_of texts ms) ≡ members_len ms
-text_len texts [] all = refl
-text_len texts (m ∷ ms) all = length-append (units_of texts m) (text_of texts ms) ∙ ap (λ n. n + length (text_of texts ms)) all.0 ∙ ap (λ n. member_len m + n) (text_len texts ms all.1) ∙ sym (sum_by-cons member_len m ms)
-
-part_len : (texts : ℕ → List ℕ) (members : List Member) → AreFitting members texts → (k : ℕ) (m : Member) → slice_get members k ≡ Some m → length (units_of texts m) ≡ member_len m
-part_len texts members fitting k (Member.Literal units) here = refl
-part_len texts members fitting k (Member.Tracked source x mode) here =
-    let within : end_of x ≤ length (texts source) = fitting.inside k source x mode here in
-    omega (arith, length-take (x.start + x.len - x.start) (drop x.start (texts source)), length-drop x.start (texts source))
-
 -- ---- the stock
 
 module _ (s : Stock) (ready : IsReady s) (c : ℕ) (there : c < count s) (carries : is_carrier (record_now s c) ≡ true) where
-  record_is : (members : List Member) × (from : List (ℕ × ℕ)) × (record_now s c ≡ projection members from)
-  record_is = by (record_now s c) refl
-    where
-      by : (r : Record) → record_now s c ≡ r → (members : List Member) × (from : List (ℕ × ℕ)) × (record_now s c ≡ projection members from)
-      by (base text n) is = absurd (let e : true ≡ false = sym carries ∙ ap is_carrier is in cc)
-      by (projection members from) is = (members, from, is)
-      by (elision flags source version) is = absurd (let e : true ≡ false = sym (ap is_elision is) ∙ ready.plain c there in cc)
-
   fitting_now : AreFitting (members_of (record_now s c)) (text_now s)
-  fitting_now = subst (λ (r : Record). AreFitting (members_of r) (text_now s)) (sym record_is.2) (ready.fitting c record_is.0 record_is.1 record_is.2)
+  fitting_now = ready.fitting c
 
   -- its text is as long as its members
   pub carrier_len : length (text_now s c) ≡ members_len (members_of (record_now s c))
-  carrier_len =
-      ap length (ready.deep c record_is.0 record_is.1 record_is.2)
-      ∙ ap (λ (r : Record). length (text_of (text_now s) (members_of r))) (sym record_is.2)
-      ∙ text_len (text_now s) (members_of (record_now s c)) (each_member (λ m. length (units_of (text_now s) m) ≡ member_len m) (members_of (record_now s c)) (part_len (text_now s) (members_of (record_now s c)) fitting_now))
+  carrier_len = ap length (ready.deep c carries) ∙ length_text_over (text_now s) (members_of (record_now s c)) (each_member (Fits (text_now s)) (members_of (record_now s c)) one)
+    where
+      one : (j : ℕ) (m : Member) → slice_get (members_of (record_now s c)) j ≡ Some m → Fits (text_now s) m
+      one j (Member.Literal units) at = tt
+      one j (Member.Tracked b x mode) at = fitting_now.inside j b x mode at
 
   source_there : (k b : ℕ) (x : Span) (mode : SpanMode) → slice_get (members_of (record_now s c)) k ≡ Some (Member.Tracked b x mode) → b < count s
-  source_there k b x mode at = (ready.named c record_is.0 record_is.1 record_is.2 k b x mode (ap (λ (r : Record). slice_get (members_of r) k) (sym record_is.2) ∙ at)).1
+  source_there k b x mode at = (ready.named c k b x mode at).1
 
   pub ends_short : ((b : ℕ) → b < count s → length (text_now s b) ≤ 2 ^ 22) → All EndsShort (members_of (record_now s c))
   ends_short short = All-from_recursion EndsShort (members_of (record_now s c)) (each_member EndsShort (members_of (record_now s c)) one)

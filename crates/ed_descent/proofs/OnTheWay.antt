@@ -15,7 +15,6 @@ use Rattle.ed_layers.specs.Sending.{sending_fault}
 use Rattle.ed_risen.proofs.Lists.{each_among}
 use Rattle.ed_risen.proofs.Order.{of_order}
 use Rattle.ed_sending.proofs.Lists.SortedParts.{Each, each_append, each_more, filter_each}
-use Rattle.ed_sending.proofs.Groups.AcceptedEdit.{IsReady}
 use Rattle.ed_sending.proofs.Groups.SendingOrder.{down_once}
 use Rattle.ed_stock.specs.Landing.{carriers_down, components_at, down_fault, down_fault_from, pieces_at, pieces_of_changes, sent_down, sent_from}
 use Rattle.ed_stock.specs.Stock.{Stock, count, graph_order, record_now, text_now}
@@ -23,6 +22,7 @@ use Rattle.ed_descent.proofs.CarrierFacts.{as_many, sent_there}
 use Rattle.ed_descent.proofs.UnitSums.{AreOnce, edits_sum, sums_append, units_at}
 use Rattle.ed_descent.specs.Edits.{IsNormalEdit, pieces_of_edits, units_of_carriers}
 use Rattle.ed_descent.specs.declared.edit.BufferEdit.{BufferEdit}
+use Rattle.ed_sending.specs.Ready.{IsReady}
 
 -- a piece lies inside the text of a buffer that is there
 abbrev pub LiesIn : Stock → ℕ × Piece → Type 0

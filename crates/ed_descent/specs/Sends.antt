@@ -7,11 +7,11 @@ use Rattle.ed_layers.specs.Pieces.{arrived}
 use Rattle.ed_layers.specs.Records.{is_carrier, members_of}
 use Rattle.ed_layers.specs.Sending.{sending_fault, sent}
 use Rattle.ed_pieces.specs.Arrivals.{AllWithin}
-use Rattle.ed_sending.proofs.Groups.AcceptedEdit.{IsReady}
 use Rattle.ed_stock.specs.Landing.{resolver_of}
 use Rattle.ed_stock.specs.Stock.{Stock, count, record_now, text_now}
 use Rattle.ed_held.specs.declared.held.Held.{Held}
 use Rattle.ed_held.specs.Seen.{stock}
+use Rattle.ed_sending.specs.Ready.{IsReady}
 
 -- between groups, edits can be sent down
 pub record CanSend (hs : List Held) : Type 0 where

@@ -1,23 +1,21 @@
 -- The beginning of a group that replaces members of a projection.
 use Rattle.std.proofs.Common.{◌≡◌, ◌≢◌, ℕ, zero, suc, ◌+◌, ◌-◌, ◌<◌, ◌≤◌, ◌^◌, true, false, inl, inr, List, [], ◌∷◌, ◌++◌, length, map, Option, Some, None, refl, sym, ap, ◌∙◌, subst, arith, append_assoc, length-append}
-use Rattle.std.specs.Prelude.{All, Result, Ok, Err, IsErr, IsErrAnd, MatchResult, take, drop, slice_get, slice_set, unwrap_or, if◌then◌else◌}
+use Rattle.std.specs.Prelude.{All, Result, Ok, Err, IsErr, IsErrAnd, MatchResult, take, drop, slice_get, if◌then◌else◌}
 use Rattle.std.proofs.lemmas.Bool.{cases_lt, le-ltb, lt-ltb}
-use Rattle.std.proofs.lemmas.List.{length-map, length-drop, length-take-le}
+use Rattle.std.proofs.lemmas.List.{length-drop, length-take-le}
 use Rattle.ed_base.specs.declared.Member.{Member}
-use Rattle.ed_base.specs.declared.OutOfMemory.{OutOfMemory}
 use Rattle.ed_base.specs.declared.Refusal.{Refusal}
 use Rattle.ed_base.specs.declared.Which.{Which}
 use Rattle.ed_base.specs.Numbers.{first_some, is_among}
 use Rattle.ed_graph.specs.Standing.{IsLevelled, linked, sources_in as graph_sources}
 use Rattle.ed_layers.specs.CarrierStep.{stay_around}
 use Rattle.ed_layers.specs.Order.{mode_fault, overlap_fault}
-use Rattle.ed_layers.specs.Records.{base, is_carrier, members_len, members_of}
-use Rattle.ed_project.specs.Planning.{IsStep, added_in}
-use Rattle.ed_project.specs.Records.{Next, Projection, record_of, shown_now}
-use Rattle.ed_project.specs.Texts.{no_steps, text_in, text_over, versions_of}
+use Rattle.ed_layers.specs.Records.{is_carrier, is_elision, members_len, members_of, projection}
+use Rattle.ed_project.specs.Planning.{added_in}
+use Rattle.ed_project.specs.Texts.{no_steps, versions_of}
 use Rattle.ed_stock.specs.Limits.{stock_limits}
 use Rattle.ed_stock.specs.Making.{sources_in, spans_replaced, spans_set}
-use Rattle.ed_stock.specs.Stock.{Buffer, count, now, record_now, sources_now, text_now}
+use Rattle.ed_stock.specs.Stock.{count, now, record_now, sources_now, text_now}
 use Rattle.ed_stock.specs.Versions.{at_now}
 use Rattle.ed_version.specs.declared.Snapshot.{Snapshot}
 use Rattle.ed_group.specs.Answers.{LiesIn, members_now, spans_fault}
@@ -26,30 +24,20 @@ use Rattle.ed_group.specs.Begun.{HasBegunSpans}
 use Rattle.ed_climb.specs.declared.counts.Counts.{Counts}
 use Rattle.ed_climb.specs.declared.fault.PlanFault.{PlanFault}
 use Rattle.ed_held.specs.declared.held.Held.{Held}
+use Rattle.ed_held.specs.declared.moves.Planned.{Planned}
+use Rattle.ed_held.specs.Following.{Follows}
 use Rattle.ed_climb.specs.Kept.{IsKept}
 use Rattle.ed_climb.specs.Limited.{passed}
-use Rattle.ed_held.specs.Seen.{known, seen, stock}
-use Rattle.ed_held.specs.Respanning.{CanRespan, HasRespanned, Shows, held_members}
+use Rattle.ed_held.specs.Seen.{known, stock}
+use Rattle.ed_held.specs.Respanning.{CanRespan, held_members}
 use Rattle.ed_group.specs.Spanning.{HasReshown}
-use Rattle.ed_climb.proofs.Advanced.{same_known}
-use Rattle.ed_held.proofs.KindLemmas.{base_last}
 use Rattle.ed_climb.proofs.KeptNumbers.{held_count, held_len, refuses_this}
 use Rattle.ed_risen.proofs.Lists.{among_itself, clash}
 use Rattle.ed_group.proofs.Respanned.{linked_here, linked_len, linked_other, shown_lies}
-use Rattle.ed_climb.proofs.Snapshots.{held_buffer, held_record, snaps, snaps_versions}
+use Rattle.ed_climb.proofs.Snapshots.{held_record, snaps, snaps_versions}
 use Rattle.ed_group.proofs.Spanned.{spans_begin, spans_too_long}
 use Rattle.ed_risen.proofs.Limits.{few_buffers, texts_fit}
 use Rattle.ed_risen.proofs.RisingLemmas.{levels}
-
--- ---- what was planned
-
-pub reshown_known : (sources : List Snapshot) (old new : Held) (first removed : ℕ) (ms : List Member) (result : Result Next OutOfMemory) → HasRespanned sources old new first removed ms result → known new ≡ known old
-reshown_known sources (Held.Base x) new first removed ms result h = absurd h
-reshown_known sources (Held.Projection p turns) new first removed ms result h = ap known h.1 ∙ same_known p h.0 turns h.2.same
-
-pub reshown_by : (sources : List Snapshot) (hs : List Held) (b : ℕ) (old new : Held) (first removed : ℕ) (ms : List Member) (result : Result Next OutOfMemory) → HasRespanned sources old new first removed ms result → HasReshown sources hs (slice_set hs b new) b old first removed ms result
-reshown_by sources hs b (Held.Base x) new first removed ms result h = absurd h
-reshown_by sources hs b (Held.Projection p turns) new first removed ms result h = (h.0, ap (slice_set hs b) h.1, h.2)
 
 -- ---- lists
 
@@ -88,39 +76,27 @@ module _ (hs : List Held) (graph : List (List ℕ)) (counts : Counts) (kept : Is
   pub there : b < count (stock hs)
   there = let a : length graph ≡ length hs = held_len hs graph counts kept in let e : length graph ≡ count (stock hs) = held_count hs graph counts kept in omega arith
 
-  -- it is a projection
-  pub is_projection : (h : Held) → slice_get hs b ≡ Some h → (p : Projection) × (turns : ℕ) × (h ≡ Held.Projection p turns)
-  is_projection (Held.Projection p turns) is = (p, turns, refl)
-  is_projection (Held.Base x) is =
-      let e : is_carrier (record_now (stock hs) b) ≡ false = ap (λ (y : Buffer). is_carrier (unwrap_or (slice_get y.records (length y.records - 1)) (base [] 0))) (held_buffer hs b (Held.Base x) is) ∙ base_last x.chain.versions (length (seen (Held.Base x)).records - 1) in
-      absurd (clash (is_carrier (record_now (stock hs) b)) carrier e)
-
-  members_by : (p : Projection) (turns : ℕ) → slice_get hs b ≡ Some (Held.Projection p turns) → members_now (stock hs) b ≡ (shown_now p).members
-  members_by p turns is =
-      let some : 0 < length (map record_of p.versions) = subst (λ (y : Buffer). 0 < length y.records) (held_buffer hs b (Held.Projection p turns) is) (kept.settled.some b there) in
-      ap members_of (held_record hs b p turns is (subst (λ n. 0 < n) (length-map p.versions record_of) some))
-
   pub members_are : (h : Held) → slice_get hs b ≡ Some h → members_now (stock hs) b ≡ held_members h
-  members_are h is =
-      let p : (p : Projection) × (turns : ℕ) × (h ≡ Held.Projection p turns) = is_projection h is in
-      members_by p.0 p.1 (is ∙ ap Some p.2) ∙ ap held_members (sym p.2)
+  members_are h is = ap members_of (held_record hs b h is)
 
-  module _ (first removed : ℕ) (part : first + removed ≤ length (members_now (stock hs) b)) (added : List Member) where
-    can_by : (p : Projection) → members_now (stock hs) b ≡ (shown_now p).members → (ms : List Member) → ms ≡ spans_replaced (members_now (stock hs) b) first removed added → CanRespan (Held.Projection p 0) first removed ms
-    can_by p are ms is = record {
-      part = subst (λ xs. first + removed ≤ length xs) are part;
-      others = is ∙ ap (λ xs. spans_replaced xs first removed added) are ∙ ap (spans_replaced (shown_now p).members first removed) (sym (ap (added_in first removed (shown_now p).members) (is ∙ ap (λ xs. spans_replaced xs first removed added) are) ∙ added_is (shown_now p).members first removed added (subst (λ xs. first + removed ≤ length xs) are part)));
-    }
+  module _ (plain : is_elision (record_now (stock hs) b) ≡ false) (first removed : ℕ) (part : first + removed ≤ length (members_now (stock hs) b)) (added : List Member) where
+    -- what was put in, of the members that are held
+    pub added_here : (h : Held) → slice_get hs b ≡ Some h → added_in first removed (held_members h) (spans_replaced (members_now (stock hs) b) first removed added) ≡ added
+    added_here h is =
+        let are : members_now (stock hs) b ≡ held_members h = members_are h is in
+        ap (λ xs. added_in first removed (held_members h) (spans_replaced xs first removed added)) are ∙ added_is (held_members h) first removed added (subst (λ xs. first + removed ≤ length xs) are part)
 
     pub can_respan : (h : Held) → slice_get hs b ≡ Some h → (ms : List Member) → ms ≡ spans_replaced (members_now (stock hs) b) first removed added → CanRespan h first removed ms
     can_respan h is ms ms_is =
-        let p : (p : Projection) × (turns : ℕ) × (h ≡ Held.Projection p turns) = is_projection h is in
-        subst (λ x. CanRespan x first removed ms) (sym p.2) (can_by p.0 (members_by p.0 p.1 (is ∙ ap Some p.2)) ms ms_is)
-
-    pub added_here : (p : Projection) (turns : ℕ) → slice_get hs b ≡ Some (Held.Projection p turns) → added_in first removed (shown_now p).members (spans_replaced (members_now (stock hs) b) first removed added) ≡ added
-    added_here p turns is =
-        let are : members_now (stock hs) b ≡ (shown_now p).members = members_by p turns is in
-        ap (λ xs. added_in first removed (shown_now p).members (spans_replaced xs first removed added)) are ∙ added_is (shown_now p).members first removed added (subst (λ xs. first + removed ≤ length xs) are part)
+        let are : members_now (stock hs) b ≡ held_members h = members_are h is in
+        record {
+          carrier = subst (λ x. is_carrier x ≡ true) (held_record hs b h is) carrier;
+          plain = subst (λ x. is_elision x ≡ false) (held_record hs b h is) plain;
+          part = record {
+            part = subst (λ xs. first + removed ≤ length xs) are part;
+            others = ms_is ∙ ap (λ xs. spans_replaced xs first removed added) are ∙ ap (spans_replaced (held_members h) first removed) (sym (ap (added_in first removed (held_members h)) ms_is ∙ added_here h is));
+          };
+        }
 
     module _ (levelled : IsLevelled graph) (lies : All (LiesIn (stock hs)) added) where
       abbrev shown : List Member
@@ -157,27 +133,21 @@ module _ (hs : List Held) (graph : List (List ℕ)) (counts : Counts) (kept : Is
           → overlap_fault (spans_replaced (members_now (stock hs) b) first removed added) ≡ None → mode_fault (λ c. length (text_now (stock hs) c)) (spans_replaced (members_now (stock hs) b) first removed added) ≡ None
           → (hs' : List Held) (h : Held) → slice_get hs b ≡ Some h → (ms : List Member) → ms ≡ spans_replaced (members_now (stock hs) b) first removed added → members_len ms ≤ 2 ^ 22
           → (ss : List Snapshot) → ss ≡ snaps (stock hs) (map (λ c. (c, now (stock hs) c)) (sources_in [] (spans_replaced (members_now (stock hs) b) first removed added)))
-          → (n : Next) → HasReshown ss hs hs' b h first removed ms (Ok n) → HasBegunSpans hs hs' graph b first removed added (g, n)
-      has_begun g g_is levels limits apart cover hs' h is ms ms_is fits ss ss_is n planned = by (is_projection h is)
-        where
-          by : (p : Projection) × (turns : ℕ) × (h ≡ Held.Projection p turns) → HasBegunSpans hs hs' graph b first removed added (g, n)
-          by p =
-              let held : slice_get hs b ≡ Some (Held.Projection p.0 p.1) = is ∙ ap Some p.2 in
-              let is_shown : HasReshown ss hs hs' b (Held.Projection p.0 p.1) first removed ms (Ok n) = subst (λ x. HasReshown ss hs hs' b x first removed ms (Ok n)) p.2 planned in
-              let next : Shows ss p.0 is_shown.0 first removed ms n = is_shown.2.next in
-              let then_levelled : IsLevelled (linked graph b sources) = subst IsLevelled g_is levels in
-              let graph_len : length g ≡ count (stock hs) = ap length g_is ∙ linked_len hs graph counts kept levelled b there first removed added lies sources in
-              let others : (c : ℕ) → c ≢ b → graph_sources g c ≡ sources_now (stock hs) c = λ c ne. ap (λ x. graph_sources x c) g_is ∙ linked_other hs graph counts kept levelled b there first removed added lies sources c ne in
-              let here : graph_sources g b ≡ sources_in [] shown = ap (λ x. graph_sources x b) g_is ∙ linked_here hs graph counts kept levelled b there first removed added lies sources in
-              let members_same : n.members ≡ shown = next.members ∙ ms_is in
-              let step : IsStep (stay_around first removed (length added)) no_steps p.0 n = subst (λ xs. IsStep (stay_around first removed (length xs)) no_steps p.0 n) (ap (added_in first removed (shown_now p.0).members) ms_is ∙ added_here p.0 p.1 held) next.step in
-              record {
-                graph_is = g_is;
-                levelled = levels;
-                limits = limits;
-                climbs = spans_begin hs kept.settled g graph_len levels b there others shown here (shown_lies hs graph counts kept levelled b there first removed added lies) hs' (record { numbered = kept.numbered; texts = kept.texts }) (texts_fit (stock hs) kept.within) inside
-                    p.0 is_shown.0 p.1 held is_shown.1 is_shown.2.same n next.planned members_same
-                    (next.versions ∙ ap versions_of ss_is ∙ snaps_versions (stock hs) named ∙ at_now_by sources)
-                    (next.text ∙ ap (λ xs. text_over (text_in xs) n.members) ss_is ∙ ap (text_over (text_in (snaps (stock hs) named))) members_same)
-                    (stay_around first removed (length added)) step (subst (λ xs. members_len xs ≤ 2 ^ 22) ms_is fits) apart cover;
-              }
+          → (n : Planned) → HasReshown ss hs hs' b h first removed ms (Ok n) → HasBegunSpans hs hs' graph b first removed added (g, n)
+      has_begun g g_is levels limits apart cover hs' h is ms ms_is fits ss ss_is n planned =
+          let graph_len : length g ≡ count (stock hs) = ap length g_is ∙ linked_len hs graph counts kept levelled b there first removed added lies sources in
+          let others : (c : ℕ) → c ≢ b → graph_sources g c ≡ sources_now (stock hs) c = λ c ne. ap (λ x. graph_sources x c) g_is ∙ linked_other hs graph counts kept levelled b there first removed added lies sources c ne in
+          let here : graph_sources g b ≡ sources_in [] shown = ap (λ x. graph_sources x b) g_is ∙ linked_here hs graph counts kept levelled b there first removed added lies sources in
+          let named_is : versions_of ss ≡ named = ap versions_of ss_is ∙ snaps_versions (stock hs) named ∙ at_now_by sources in
+          let follows : Follows (stay_around first removed (length added)) no_steps (snaps (stock hs) named) (known h) (projection shown named) n =
+          subst (λ xs. Follows (stay_around first removed (length xs)) no_steps (snaps (stock hs) named) (known h) (projection shown named) n) (added_here h is)
+          (subst (λ xs. Follows (stay_around first removed (length (added_in first removed (held_members h) xs))) no_steps (snaps (stock hs) named) (known h) (projection xs named) n) ms_is
+          (subst (λ vs. Follows (stay_around first removed (length (added_in first removed (held_members h) ms))) no_steps (snaps (stock hs) named) (known h) (projection ms vs) n) named_is
+          (subst (λ xs. Follows (stay_around first removed (length (added_in first removed (held_members h) ms))) no_steps xs (known h) (projection ms (versions_of ss)) n) ss_is planned.shown.next))) in
+          record {
+            graph_is = g_is;
+            levelled = levels;
+            limits = limits;
+            climbs = spans_begin hs kept.settled g graph_len levels b there others shown here (shown_lies hs graph counts kept levelled b there first removed added lies) hs' (record { numbered = kept.numbered; texts = kept.texts }) (texts_fit (stock hs) kept.within) inside
+                h planned.held is planned.set planned.shown.same n planned.shown.made (stay_around first removed (length added)) follows apart cover (subst (λ xs. members_len xs ≤ 2 ^ 22) ms_is fits);
+          }

@@ -5,6 +5,7 @@ pub mod Based
 pub mod Zoned
 pub mod Lasting
 pub mod Projected
+pub mod FirstCarrier
 pub mod Spanned
 pub mod Respanned
 pub mod Begins

@@ -1,14 +1,13 @@
 -- A stock that is kept is ready for an edit.
 use Rattle.std.proofs.Common.{ℕ, List, map}
 use Rattle.ed_graph.specs.Standing.{IsLevelled}
-use Rattle.ed_sending.proofs.Groups.AcceptedEdit.{IsReady}
-use Rattle.ed_sending.proofs.Groups.OneWay.{NamesLower}
 use Rattle.ed_sending.proofs.Groups.SettledStocks.{names_lower_of}
 use Rattle.ed_held.specs.declared.held.Held.{Held}
 use Rattle.ed_held.specs.Seen.{known, stock}
 use Rattle.ed_climb.specs.Kept.{IsKept}
 use Rattle.ed_climb.specs.declared.counts.Counts.{Counts}
 use Rattle.ed_landing.proofs.Beginning.{can_send, stand_on}
+use Rattle.ed_sending.specs.Ready.{IsReady, NamesLower}
 
 module _ (hs : List Held) (graph : List (List ℕ)) (counts : Counts) (kept : IsKept (map known hs) graph counts) (levelled : IsLevelled graph) where
   pub kept_ready : IsReady (stock hs)

@@ -9,7 +9,7 @@ use Rattle.ed_base.specs.Numbers.{first_some, is_among, or_else, places}
 use Rattle.ed_graph.specs.Standing.{IsLevelled, first_cycle, linked, reaches_in, sources_in as graph_sources}
 use Rattle.ed_layers.specs.Graph as order
 use Rattle.ed_layers.specs.Order.{mode_fault, overlap_fault}
-use Rattle.ed_layers.specs.Records.{Record, base, projection, elision, members_of, sources_of}
+use Rattle.ed_layers.specs.Records.{sources_of}
 use Rattle.ed_members.specs.Faults.{first_fault, len_in}
 use Rattle.ed_stock.specs.Limits.{stock_limits}
 use Rattle.ed_stock.specs.Linking.{cycle, depth}
@@ -23,10 +23,11 @@ use Rattle.ed_climb.specs.declared.fault.PlanFault.{PlanFault}
 use Rattle.ed_held.specs.declared.held.Held.{Held}
 use Rattle.ed_climb.specs.Kept.{IsKept}
 use Rattle.ed_group.specs.Placed.{too_deep}
-use Rattle.ed_risen.specs.Rising.{EndsIn, Inside}
+use Rattle.ed_risen.specs.Rising.{EndsIn}
 use Rattle.ed_held.specs.Seen.{known, stock}
 use Rattle.ed_group.specs.Spanning.{standing_fault}
 use Rattle.ed_climb.proofs.KeptNumbers.{count_len, graph_len}
+use Rattle.ed_risen.proofs.ShownRuns.{stands}
 use Rattle.ed_risen.proofs.Settled.{all_of}
 use Rattle.ed_risen.proofs.FoundedLemmas.{each_version, each_weaker}
 use Rattle.ed_risen.proofs.Sources.{Agree, IsListed, OfSource, all_listed, same_mode_fault}
@@ -105,11 +106,6 @@ first_ends test (Member.Tracked source bounds mode ∷ xs) ys h = ap (λ o. if t
 
 -- ---- the members that would be shown
 
-inside_members : (s : Stock) (x : Record) → Inside s x → Each (EndsIn s (sources_of x)) (members_of x)
-inside_members s (base units reiterated) h = tt
-inside_members s (projection ms vs) h = h.ends
-inside_members s (elision flags source version) h = absurd h
-
 ends_of_source : (s : Stock) (P : ℕ → Type 0) (vs : List (ℕ × ℕ)) → Each (λ v. P v.0) vs → (m : Member) → EndsIn s vs m → OfSource P m
 ends_of_source s P vs all (Member.Literal units) e = tt
 ends_of_source s P vs all (Member.Tracked source bounds mode) e = each_version (λ v. P v.0) vs source (now s source) all e.0
@@ -145,7 +141,7 @@ module _ (hs : List Held) (graph : List (List ℕ)) (counts : Counts) (kept : Is
   old_there = old_each (λ c. c < count s) (subst (λ k. Each (λ c. c < k) (graph_sources graph b)) len_is (each_of (λ c. c < length graph) (graph_sources graph b) (levelled.within b [] (subst (λ k. b < k) (sym len_is) there))))
 
   old_ends : Each (EndsIn s old) (members_now s b)
-  old_ends = inside_members s (record_now s b) (kept.settled.inside b there)
+  old_ends = (stands s (record_now s b) (kept.settled.inside b there)).ends
 
   shown_each : (P : Member → Type 0) → Each P (members_now s b) → Each P added → Each P shown
   shown_each P h k =

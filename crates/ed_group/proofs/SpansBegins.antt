@@ -1,18 +1,14 @@
 -- The beginning of a group that replaces members of a projection, handed on.
-use Rattle.std.proofs.Common.{◌≡◌, ◌≢◌, ℕ, ◌<◌, ◌≤◌, true, false, List, [], ◌∷◌, length, map, Option, Some, None, refl, sym, ap, ◌∙◌, subst, ltb-false}
+use Rattle.std.proofs.Common.{◌≡◌, ◌≢◌, ℕ, ◌<◌, List, [], ◌∷◌, length, map, Option, Some, None, refl, sym, ap, ◌∙◌, subst}
 use Rattle.std.specs.Prelude.{All, slice_get}
 use Rattle.std.specs.List.{AllByRecursion as Each}
 use Rattle.std.proofs.lemmas.List.{length-map}
 use Rattle.ed_base.specs.declared.Member.{Member}
-use Rattle.ed_base.specs.declared.Which.{Which}
-use Rattle.ed_base.specs.Numbers.{is_among}
 use Rattle.ed_graph.specs.Standing.{IsLevelled, order_in, sources_in as graph_sources}
 use Rattle.ed_layers.specs.CarrierStep.{stay_around}
-use Rattle.ed_layers.specs.Records.{is_elision, members_of, projection}
-use Rattle.ed_project.specs.Records.{Next}
-use Rattle.ed_stock.specs.Limits.{over, some_over}
+use Rattle.ed_held.specs.declared.moves.Planned.{Planned}
 use Rattle.ed_stock.specs.Making.{projection_of, sources_in, spans_replaced, spans_set}
-use Rattle.ed_stock.specs.Stock.{Stock, count, graph_order, record_now, sources_now}
+use Rattle.ed_stock.specs.Stock.{Stock, count, sources_now}
 use Rattle.ed_stock.specs.Versions.{Rising, step_in}
 use Rattle.ed_group.specs.Answers.{LiesIn, members_now, spans_fault}
 use Rattle.ed_group.specs.Begun.{HasBegunSpans}
@@ -20,8 +16,7 @@ use Rattle.ed_climb.specs.Begins.{Begins, LeadsTo, way}
 use Rattle.ed_climb.specs.declared.beginning.FirstMoves.{FirstMoves}
 use Rattle.ed_members.specs.Steps.{step_seen}
 use Rattle.ed_risen.specs.Start.{IsStart}
-use Rattle.ed_risen.specs.Counting.{member_count}
-use Rattle.ed_held.specs.Moves.{move_seen, rising_of, with_move}
+use Rattle.ed_held.specs.Moves.{changes_of, move_seen, record_of, rising_of, with_move}
 use Rattle.ed_group.proofs.Begins.{not_only}
 use Rattle.ed_climb.proofs.Groups.{leads}
 use Rattle.ed_climb.proofs.Moved.{most_moved}
@@ -29,24 +24,19 @@ use Rattle.ed_climb.proofs.Theirs.{plain_way}
 use Rattle.ed_risen.proofs.Lengths.{ArePlain}
 use Rattle.ed_risen.proofs.PlainTurns.{plain_record}
 use Rattle.ed_climb.proofs.TurnedKept.{may_turn}
-use Rattle.ed_risen.proofs.Starts.{first_order}
-use Rattle.ed_risen.proofs.Limits.{few_members, not_elision}
 use Rattle.ed_climb.specs.Climbing.{move_to}
-use Rattle.ed_held.specs.Making.{IsProjection}
+use Rattle.ed_held.specs.Making.{CanTurn}
 use Rattle.ed_risen.specs.Growing.{Grows}
 use Rattle.ed_climb.specs.Kept.{IsKept}
-use Rattle.ed_climb.specs.Limited.{passed}
 use Rattle.ed_climb.specs.Route.{Climbs}
 use Rattle.ed_held.specs.Seen.{Known, known, stock, seen}
 use Rattle.ed_group.specs.Spanning.{below, spans_first}
 use Rattle.ed_climb.specs.declared.counts.Counts.{Counts}
 use Rattle.ed_held.specs.declared.held.Held.{Held}
 use Rattle.ed_held.specs.declared.moves.Move.{Move}
-use Rattle.ed_risen.proofs.Growth.{grown_record_now, grown_record_other, version_grows}
-use Rattle.ed_risen.proofs.Order.{in_order, of_order}
-use Rattle.ed_risen.proofs.OneLimit.{none_of, none_past, only_over}
+use Rattle.ed_risen.proofs.Growth.{version_grows}
 use Rattle.ed_group.proofs.Respanned.{linked_here, linked_len, linked_other, shown_lies}
-use Rattle.ed_group.proofs.Spanned.{same_names, spans_land}
+use Rattle.ed_group.proofs.Spanned.{names_spans, spans_land}
 
 -- ---- one turn more
 
@@ -54,7 +44,7 @@ pub below_held : (hs : List Held) (b : ℕ) → b < count (stock hs) → b < len
 below_held hs b there = subst (λ n. b < n) (length-map (map known hs) (λ (k : Known). k.buffer) ∙ length-map hs known) there
 
 module _ (hs : List Held) (graph : List (List ℕ)) (counts : Counts) (kept : IsKept (map known hs) graph counts) (before : IsLevelled graph) (b : ℕ) (there : b < count (stock hs)) (first removed : ℕ) (added : List Member) (lies : All (LiesIn (stock hs)) added)
-    (hs₁ : List Held) (g : List (List ℕ)) (n : Next) (start : HasBegunSpans hs hs₁ graph b first removed added (g, n)) where
+    (hs₁ : List Held) (g : List (List ℕ)) (n : Planned) (start : HasBegunSpans hs hs₁ graph b first removed added (g, n)) where
   abbrev s : Stock
   s = stock hs
 
@@ -82,21 +72,8 @@ module _ (hs : List Held) (graph : List (List ℕ)) (counts : Counts) (kept : Is
   begins_is : begins ≡ rising_of s (move_to b n [] ∷ [])
   begins_is = start.climbs.folded
 
-  grows : Grows s (with_move s (move_to b n [])) b (projection n.members n.sources)
-  grows = version_grows s b (projection n.members n.sources) n.changes there
-
-  members_begun : member_count begins.stock b ≡ length n.members
-  members_begun = ap (λ (u : Rising). member_count u.stock b) begins_is ∙ ap (λ x. length (members_of x)) (grown_record_now s (with_move s (move_to b n [])) b (projection n.members n.sources) grows)
-
-  members_beside : (c : ℕ) → c ≢ b → member_count begins.stock c ≡ member_count s c
-  members_beside c ne = ap (λ (u : Rising). member_count u.stock c) begins_is ∙ ap (λ x. length (members_of x)) (grown_record_other s (with_move s (move_to b n [])) b (projection n.members n.sources) grows c ne)
-
-  plain_begun : is_elision (record_now begins.stock b) ≡ false
-  plain_begun = ap (λ (u : Rising). is_elision (record_now u.stock b)) begins_is ∙ ap is_elision (grown_record_now s (with_move s (move_to b n [])) b (projection n.members n.sources) grows)
-
-  plain_beside : (c : ℕ) → c ≢ b → c < count s → is_elision (record_now begins.stock c) ≡ false
-  plain_beside c ne in_ =
-      ap (λ (u : Rising). is_elision (record_now u.stock c)) begins_is ∙ ap is_elision (grown_record_other s (with_move s (move_to b n [])) b (projection n.members n.sources) grows c ne) ∙ not_elision s kept.settled c in_
+  grows : Grows s (with_move s (move_to b n [])) b (record_of n)
+  grows = version_grows s b (record_of n) (changes_of n) there
 
   -- ---- it begins a group
 
@@ -112,7 +89,7 @@ module _ (hs : List Held) (graph : List (List ℕ)) (counts : Counts) (kept : Is
     len = len;
     same_count = start.climbs.rises.same_count;
     same_most = most_moved s move;
-    names = ap (λ (u : Rising). sources_now u.stock) (sym begins_is) ∙ same_names hs kept.settled g len start.levelled b there others shown here lie stays;
+    names = ap (λ (u : Rising). sources_now u.stock) (sym begins_is) ∙ names_spans hs kept.settled g len start.levelled b there others shown here lie stays;
   }
 
   -- no unit of the one version came through another carrier
@@ -128,26 +105,8 @@ module _ (hs : List Held) (graph : List (List ℕ)) (counts : Counts) (kept : Is
     climbs = subst (λ u. Climbs (way (map known hs) g (b ∷ []) (b ∷ below g b) u) [] (b ∷ below g b) hs₁ (move_to b n [] ∷ [])) begins_is start.climbs;
   }
 
-  few_other : (c : ℕ) → c ≢ b → is_among c (order_in g) ≡ true → member_count next.stock c ≤ 1024
-  few_other c ne i =
-      let in_ : c < count s = subst (λ k. c < k) start.climbs.rises.same_count (of_order next.stock c (subst (λ xs. is_among c xs ≡ true) (sym (order_next)) i)) in
-      subst (λ k. k ≤ 1024) (sym (ap (λ (u : Rising). member_count u.stock c) (sym begins_is) ∙ members_beside c ne))
-      (ltb-false 1024 (member_count s c) (none_past 1024 (member_count s) (graph_order s) c (none_of Which.Members 1024 (map (member_count s) (graph_order s)) (few_members s kept.within)) (in_order s c in_)))
-    where
-      order_next : graph_order next.stock ≡ order_in g
-      order_next = first_order s g next start_next
-
-  members_next : some_over Which.Members 1024 (map (member_count next.stock) (order_in g)) ≡ passed Which.Members 1024 (length n.members)
-  members_next =
-      only_over Which.Members 1024 (member_count next.stock) b (order_in g) here_in few_other
-      ∙ ap (over Which.Members 1024) (ap (λ (u : Rising). member_count u.stock b) (sym begins_is) ∙ members_begun)
-    where
-      here_in : is_among b (order_in g) ≡ true
-      here_in = subst (λ xs. is_among b xs ≡ true) (first_order s g next start_next) (in_order next.stock b (subst (λ k. b < k) (sym start.climbs.rises.same_count) there))
-
-  pub spans_lead : ((h : Held) → slice_get hs b ≡ Some h → IsProjection h) → (f : FirstMoves) → f.graph ≡ g → f.moves.items ≡ move_to b n [] ∷ [] → f.turned ≡ Some b → f.members ≡ passed Which.Members 1024 (length n.members)
-      → map (λ s. (s.source, step_seen s)) f.steps.items ≡ map move_seen f.moves.items → LeadsTo hs₁ (spans_fault (stock hs) b first removed added) (spans_set (stock hs) b first removed added) f
-  spans_lead could f graph_is moves turned members seen =
-      leads hs hs₁ start.climbs.same f g (move_to b n [] ∷ []) (Some b) (passed Which.Members 1024 (length n.members)) graph_is moves turned members (b ∷ []) (b ∷ below g b) begins_next seen members_next
+  pub spans_lead : ((h : Held) → slice_get hs b ≡ Some h → CanTurn h) → (f : FirstMoves) → f.graph ≡ g → f.moves.items ≡ move_to b n [] ∷ [] → f.turned ≡ Some b → map (λ s. (s.source, step_seen s)) f.steps.items ≡ map move_seen f.moves.items → LeadsTo hs₁ (spans_fault (stock hs) b first removed added) (spans_set (stock hs) b first removed added) f
+  spans_lead could f graph_is moves turned seen =
+      leads hs hs₁ start.climbs.same f g (move_to b n [] ∷ []) (Some b) graph_is moves turned (b ∷ []) (b ∷ below g b) begins_next seen
       (may_turn hs graph counts kept b there hs₁ start.climbs.same could) (spans_fault s b first removed added) (spans_set s b first removed added)
       (spans_land hs kept.settled g len start.levelled b there others shown here lie first removed added refl next begins_is) start.limits

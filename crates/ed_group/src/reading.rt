@@ -10,9 +10,8 @@ ghost use Rattle.ed_stock.specs.Stock.{buffer, count, now, record_now, reiterate
 ghost use Rattle.ed_track.specs.Linked.{AreLinked, len_after, len_before};
 ghost use Rattle.ed_group.specs.Answers.{members_now};
 ghost use Rattle.ed_risen.specs.Laws.{CurrentVector, OneVector};
-ghost use Rattle.ed_sending.proofs.Groups.AcceptedEdit.{IsReady};
-ghost use Rattle.ed_sending.proofs.Groups.OneWay.{NamesLower};
 ghost use Rattle.ed_held.specs.Seen.{known, last_of, reiterated_of, stock, text_of};
+ghost use Rattle.ed_sending.specs.Ready.{IsReady, NamesLower};
 
 use crate::stock::Stock;
 use ed_base::{BufferNo, Changes, NumberList, OutOfMemory, RegionNo, Span, VersionNo};

@@ -1,7 +1,7 @@
 //! Members of a projection that are replaced.
-ghost use Rattle.std.specs.Prelude.{◌≡◌, ◌+◌, ◌-◌, ◌<◌, ◌≤◌, ◌^◌, true, All, length, map, slice_get, Some, Err, IfOk, MatchOption, MatchResult};
+ghost use Rattle.std.specs.Prelude.{◌≡◌, ◌+◌, ◌-◌, ◌<◌, ◌≤◌, ◌^◌, true, false, All, length, map, slice_get, Some, Err, IfOk, MatchOption, MatchResult};
 ghost use Rattle.ed_graph.specs.Standing.{IsLevelled, linked};
-ghost use Rattle.ed_layers.specs.Records.{is_carrier, members_len};
+ghost use Rattle.ed_layers.specs.Records.{is_carrier, is_elision, members_len};
 ghost use Rattle.ed_project.specs.Texts.{HasSource, no_steps};
 ghost use Rattle.ed_stock.specs.Making.{spans_replaced};
 ghost use Rattle.ed_stock.specs.Stock.{record_now};
@@ -12,7 +12,7 @@ ghost use Rattle.ed_climb.specs.Kept.{IsKept};
 ghost use Rattle.ed_held.specs.Seen.{known, stock};
 ghost use Rattle.ed_climb.specs.declared.counts.Counts.{Counts};
 ghost use Rattle.ed_held.specs.declared.held.Held.{Held};
-ghost use Rattle.ed_held.specs.Respanning.{CanRespan, HasRespanned, IsPart, Respans, held_members};
+ghost use Rattle.ed_held.specs.Respanning.{CanRespan, held_members};
 ghost use Rattle.ed_group.specs.Spanning.{HasReshown, refusal_of, standing_fault};
 ghost use Rattle.ed_climb.specs.declared.fault.PlanFault.{PlanFault};
 
@@ -21,9 +21,8 @@ use crate::placing::joined;
 use ed_base::{BufferNo, Member, OutOfMemory, Refusal};
 use ed_climb::{PlanFault, units_limit};
 use ed_graph::{Graph, LinkFault};
-use ed_held::{Held, members_with, respan};
+use ed_held::{Held, Planned, members_with, respan};
 use ed_members::Members;
-use ed_project::{NextRecord, Projection};
 use ed_version::Snapshot;
 use std::alloc::Global;
 
@@ -77,7 +76,7 @@ fn reshown(
     first: u32,
     removed: u32,
     sources: &[Snapshot],
-) -> Result<NextRecord, OutOfMemory>
+) -> Result<Planned, OutOfMemory>
     requires there { buffer < length buffers.old }
     requires part { (h : Held) → slice_get buffers.old buffer ≡ Some h → CanRespan h first removed members }
     requires sources_there { All (HasSource no_steps sources.now) members }
@@ -104,10 +103,11 @@ pub fn begun(
     first: u32,
     removed: u32,
     added: Vec<Member>,
-) -> Result<(Graph, NextRecord), PlanFault>
+) -> Result<(Graph, Planned), PlanFault>
     requires kept { (counts : Counts) × IsKept (map known buffers.old) graph.now counts }
     requires there { buffer < length buffers.old }
-    requires projection { is_carrier (record_now (stock buffers.old) buffer) ≡ true }
+    requires carrier { is_carrier (record_now (stock buffers.old) buffer) ≡ true }
+    requires plain { is_elision (record_now (stock buffers.old) buffer) ≡ false }
     requires part { first + removed ≤ length (members_now (stock buffers.old) buffer) }
     requires inside { All (LiesIn (stock buffers.old)) added.items }
     ensures same { map known buffers.new ≡ map known buffers.old }

@@ -1,6 +1,6 @@
 //! Members of projections that are replaced, planned.
-ghost use Rattle.std.specs.Prelude.{◌≡◌, ◌+◌, ◌<◌, ◌≤◌, true, length, map, slice_get, All, Err, IfOk, MatchResult, Some};
-ghost use Rattle.ed_layers.specs.Records.{is_carrier};
+ghost use Rattle.std.specs.Prelude.{◌≡◌, ◌+◌, ◌<◌, ◌≤◌, true, false, length, map, slice_get, All, Err, IfOk, MatchResult, Some};
+ghost use Rattle.ed_layers.specs.Records.{is_carrier, is_elision};
 ghost use Rattle.ed_stock.specs.Making.{spans_set};
 ghost use Rattle.ed_stock.specs.Stock.{count, record_now};
 ghost use Rattle.ed_stock.specs.Versions.{versions_made};
@@ -9,7 +9,7 @@ ghost use Rattle.ed_climb.specs.Refusals.{Refuses};
 ghost use Rattle.ed_climb.specs.Begins.{LeadsTo};
 ghost use Rattle.ed_climb.specs.declared.counts.Counts.{Counts};
 ghost use Rattle.ed_climb.specs.Group.{IsPlanned, outcome};
-ghost use Rattle.ed_held.specs.Making.{IsProjection};
+ghost use Rattle.ed_held.specs.Making.{CanTurn};
 ghost use Rattle.ed_climb.specs.Kept.{IsKept};
 ghost use Rattle.ed_held.specs.declared.held.Held.{Held};
 ghost use Rattle.ed_held.specs.Seen.{known, stock};
@@ -17,16 +17,16 @@ ghost use Rattle.ed_held.specs.Seen.{known, stock};
 use crate::spanning::begun;
 use crate::stock::Stock;
 use ed_base::{BufferNo, Member};
-use ed_climb::{FirstMoves, Group, PlanFault, add, group_from, members_limit};
+use ed_climb::{FirstMoves, Group, PlanFault, add, group_from};
 use ed_graph::Graph;
-use ed_held::{Held, Planned};
+use ed_held::Held;
 use ed_pieces::Trails;
 use std::alloc::Global;
 
 /// Whether members of one of these buffers can be set once more.
 fn may_turn(buffers: &[Held], buffer: BufferNo) -> bool
     requires { buffer < length buffers.now }
-    ensures { (h : Held) → slice_get buffers.now buffer ≡ Some h → result ≡ true → IsProjection h }
+    ensures { (h : Held) → slice_get buffers.now buffer ≡ Some h → result ≡ true → CanTurn h }
 {
     buffers[buffer.0 as usize].can_turn()
 }
@@ -48,7 +48,8 @@ fn replaced(
 ) -> Result<FirstMoves, PlanFault>
     requires kept { (counts : Counts) × IsKept (map known buffers.old) graph.now counts }
     requires there { buffer < count (stock buffers.old) }
-    requires projection { is_carrier (record_now (stock buffers.old) buffer) ≡ true }
+    requires carrier { is_carrier (record_now (stock buffers.old) buffer) ≡ true }
+    requires plain { is_elision (record_now (stock buffers.old) buffer) ≡ false }
     requires part { first + removed ≤ length (members_now (stock buffers.old) buffer) }
     requires inside { All (LiesIn (stock buffers.old)) added.items }
     ensures same { map known buffers.new ≡ map known buffers.old }
@@ -61,22 +62,14 @@ fn replaced(
     // The order is looked at for what is known of the graph's form.
     let _order = graph.order();
     let (graph, next) = begun(alloc, buffers, graph, buffer, first, removed, added)?;
-    let members = members_limit(u64::from(next.members().count()));
     let mut moves = Vec::new(alloc);
     let mut steps = Vec::new(alloc);
-    add(
-        buffer,
-        Planned::Projection(next),
-        Trails::empty(),
-        &mut moves,
-        &mut steps,
-    )?;
+    add(buffer, next, Trails::empty(), &mut moves, &mut steps)?;
     Ok(FirstMoves {
         graph,
         moves,
         steps,
         turned: Some(buffer),
-        members,
     })
 }
 
@@ -99,7 +92,8 @@ impl Stock {
         members: Vec<Member>,
     ) -> Result<Group, PlanFault>
         requires there { b < count (stock self.old) }
-        requires projection { is_carrier (record_now (stock self.old) b) ≡ true }
+        requires carrier { is_carrier (record_now (stock self.old) b) ≡ true }
+        requires plain { is_elision (record_now (stock self.old) b) ≡ false }
         requires part { first + removed ≤ length (members_now (stock self.old) b) }
         requires inside { All (LiesIn (stock self.old)) members.items }
         ensures same { stock self.new ≡ stock self.old }

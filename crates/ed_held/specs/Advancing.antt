@@ -1,53 +1,53 @@
--- What a projection needs to go along with moves, and what it gives.
-use Rattle.std.specs.Prelude.{◌≡◌, ℕ, List, [], All, Result, Err, IfOk, Option}
+-- What a buffer needs to go along with moves of its sources, and what it gives.
+use Rattle.std.specs.Prelude.{◌≡◌, ℕ, List, length, All, Result, IfOk, Option, MatchOption, unwrap_or}
+use Rattle.std.specs.Option.{option_map_or}
 use Rattle.ed_base.specs.declared.Member.{Member}
 use Rattle.ed_layers.specs.Bounds.{members_after}
 use Rattle.ed_layers.specs.CarrierStep.{all_stay}
-use Rattle.ed_layers.specs.Records.{members_len}
+use Rattle.ed_layers.specs.Hidden.{flags_after}
+use Rattle.ed_layers.specs.Records.{Record, base, projection, elision, members_len, members_of, version_in}
 use Rattle.ed_layers.specs.SourceStep.{SourceStep}
 use Rattle.ed_members.specs.Moving.{EndsInOld, OwnInside, OwnInOrder}
-use Rattle.ed_project.specs.Planning.{Answers, EndsWithin, IsPlanned, IsStep, too_long}
-use Rattle.ed_project.specs.Records.{Projection, Next, IsUnchanged, shown_now}
-use Rattle.ed_project.specs.Texts.{HasSource, text_in, text_over, versions_of}
+use Rattle.ed_project.specs.Planning.{Answers, EndsWithin, too_long}
+use Rattle.ed_project.specs.Texts.{HasSource, found_text, versions_of}
 use Rattle.ed_project.specs.declared.ProjectionFault.{ProjectionFault}
 use Rattle.ed_version.specs.declared.Snapshot.{Snapshot}
 use Rattle.ed_held.specs.declared.held.Held.{Held}
+use Rattle.ed_held.specs.declared.moves.Planned.{Planned}
+use Rattle.ed_held.specs.Following.{Follows}
+use Rattle.ed_held.specs.Moves.{CanMake}
+use Rattle.ed_held.specs.Seen.{Known, known, last_of}
 
--- with these steps of the sources, and these snapshots of them
-pub record CanAdvance (steps : ℕ → Option SourceStep) (sources : List Snapshot) (p : Projection) : Type 0 where
-  pub within : All (EndsInOld steps) (shown_now p).members
-  pub inside : OwnInside p.buffer steps (shown_now p).members
-  pub order : OwnInOrder p.buffer steps (shown_now p).members
-  pub there : All (HasSource steps sources) (shown_now p).members
+-- with these steps of the sources, and these snapshots of them, members can go along
+pub record CanAdvance (b : ℕ) (steps : ℕ → Option SourceStep) (sources : List Snapshot) (members : List Member) : Type 0 where
+  pub within : All (EndsInOld steps) members
+  pub inside : OwnInside b steps members
+  pub order : OwnInOrder b steps members
+  pub there : All (HasSource steps sources) members
 
--- the members that come next, and the version
-abbrev pub members_next : (ℕ → Option SourceStep) → Projection → List Member
-members_next steps p = members_after p.buffer steps (shown_now p).members
+-- the flags are of the units that the source had, and its snapshot has those that it has now
+abbrev pub AreOfSource : (ℕ → Option SourceStep) → ℕ → ℕ → List ℕ → Type 0
+AreOfSource steps source n text = MatchOption (steps source) (n ≡ length text) (λ x. (x.step.old_len ≡ n) × (x.step.new_len ≡ length text))
 
-pub record IsNextOf (steps : ℕ → Option SourceStep) (sources : List Snapshot) (p : Projection) (n : Next) : Type 0 where
-  pub members : n.members ≡ members_next steps p
-  pub versions : n.sources ≡ versions_of sources
-  pub text : n.snapshot.text ≡ text_over (text_in sources) n.members
-  pub step : IsStep all_stay steps p n
+-- the same of a record, whatever the kind of its buffer; a base stands on nothing
+abbrev pub CanGoOn : ℕ → (ℕ → Option SourceStep) → List Snapshot → Record → Type 0
+CanGoOn b steps sources (base text reiterated) = ⊥
+CanGoOn b steps sources (projection members versions) = CanAdvance b steps sources members
+CanGoOn b steps sources (elision flags source version) = MatchOption (found_text sources source) ⊥ (AreOfSource steps source (length flags))
 
--- what an answer says: the projection is as it was but for room, and has room for the version that is answered
-pub record Advances (steps : ℕ → Option SourceStep) (sources : List Snapshot) (old new : Projection) (result : Result Next ProjectionFault) : Type 0 where
-  pub same : IsUnchanged old new
-  pub within : EndsWithin steps (members_next steps old) result
-  pub fault : Answers (too_long (members_len (members_next steps old))) result
-  pub next : IfOk result (IsNextOf steps sources old)
-  pub planned : IfOk result (IsPlanned new)
+-- the record that comes next, over these versions of the sources
+abbrev pub next_of : ℕ → (ℕ → Option SourceStep) → List (ℕ × ℕ) → Record → Record
+next_of b steps versions (base text reiterated) = base text reiterated
+next_of b steps versions (projection members sources) = projection (members_after b steps members) versions
+next_of b steps versions (elision flags source version) = elision (option_map_or (λ x. flags_after b x flags) (steps source) flags) source (unwrap_or (version_in versions source) version)
 
--- the same of a buffer that is held
-abbrev pub CanAdvanceHeld : (ℕ → Option SourceStep) → List Snapshot → Held → Type 0
-CanAdvanceHeld steps sources (Held.Base x) = Unit {0}
-CanAdvanceHeld steps sources (Held.Projection p turns) = CanAdvance steps sources p
+abbrev pub record_then : (ℕ → Option SourceStep) → List Snapshot → Known → Record
+record_then steps sources k = next_of k.number steps (versions_of sources) (last_of k.buffer)
 
-abbrev pub HasAdvanced : (ℕ → Option SourceStep) → List Snapshot → Held → Held → Result Next ProjectionFault → Type 0
-HasAdvanced steps sources (Held.Base x) new result = (new ≡ Held.Base x) × (result ≡ Err ProjectionFault.OutOfMemory)
-HasAdvanced steps sources (Held.Projection p turns) new result = (q : Projection) × (new ≡ Held.Projection q turns) × Advances steps sources p q result
-
--- the versions that the buffer names
-abbrev pub sources_held : Held → List (ℕ × ℕ)
-sources_held (Held.Base x) = []
-sources_held (Held.Projection p turns) = (shown_now p).sources
+-- what an answer says: the buffer is as it was but for room, and has room for the version that is answered
+pub record Advances (steps : ℕ → Option SourceStep) (sources : List Snapshot) (old new : Held) (result : Result Planned ProjectionFault) : Type 0 where
+  pub same : known new ≡ known old
+  pub within : EndsWithin steps (members_of (record_then steps sources (known old))) result
+  pub fault : Answers (too_long (members_len (members_of (record_then steps sources (known old))))) result
+  pub next : IfOk result (Follows all_stay steps sources (known old) (record_then steps sources (known old)))
+  pub made : IfOk result (CanMake new)

@@ -1,8 +1,9 @@
 -- What can be asked of a buffer of a stock.
-use Rattle.std.specs.Prelude.{ℕ, ◌+◌, not, List, [], ◌∷◌, ◌++◌, filter, nat_eq, Option}
+use Rattle.std.specs.Prelude.{◌≡◌, ℕ, ◌+◌, not, List, [], ◌∷◌, ◌++◌, filter, nat_eq, Option}
 use Rattle.ed_base.specs.declared.Span.{Span}
 use Rattle.ed_base.specs.declared.SpanMode.{SpanMode}
 use Rattle.ed_base.specs.declared.EdgeMode.{EdgeMode}
+use Rattle.ed_buffer.specs.Planning.{Base}
 use Rattle.ed_readonly.specs.LiveRegions.{LiveRegions}
 use Rattle.ed_stock.specs.Stock.{Buffer}
 use Rattle.ed_held.specs.declared.held.Held.{Held}
@@ -27,5 +28,4 @@ abbrev pub zoned : LiveRegions → Known → Known
 zoned t k = record k { buffer = zoned_buffer t k.buffer }
 
 abbrev pub IsBase : Held → Type 0
-IsBase (Held.Base x) = Unit {0}
-IsBase (Held.Projection p turns) = ⊥
+IsBase h = (x : Base) × (h ≡ Held.Base x)

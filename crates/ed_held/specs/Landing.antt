@@ -23,11 +23,15 @@ pub record Lands (hooks : HookTable) (old new : Base) (ps : List Piece) (result 
   pub next : IfOk result (IsNextBy old ps)
   pub planned : IfOk result (IsPlanned new)
 
--- the same of a buffer that is held
-abbrev pub CanLand : Held → List Piece → Type 0
-CanLand (Held.Base x) ps = AreInside (length (text_now x.chain.versions)) ps
-CanLand (Held.Projection p turns) ps = ⊥
+-- the same of a buffer that is held, which is a base
+pub record CanLand (h : Held) (ps : List Piece) : Type 0 where
+  pub base : Base
+  pub is : h ≡ Held.Base base
+  pub inside : AreInside (length (text_now base.chain.versions)) ps
 
-abbrev pub HasLanded : HookTable → Held → Held → List Piece → Result NextVersion BaseFault → Type 0
-HasLanded hooks (Held.Base x) new ps result = (y : Base) × (new ≡ Held.Base y) × Lands hooks x y ps result
-HasLanded hooks (Held.Projection p turns) new ps result = ⊥
+pub record HasLanded (hooks : HookTable) (old new : Held) (ps : List Piece) (result : Result NextVersion BaseFault) : Type 0 where
+  pub before : Base
+  pub after : Base
+  pub old_is : old ≡ Held.Base before
+  pub new_is : new ≡ Held.Base after
+  pub lands : Lands hooks before after ps result

@@ -1,5 +1,7 @@
 pub mod Seen
 pub mod Moves
+pub mod Following
+pub mod OfProjections
 pub mod Advancing
 pub mod Landing
 pub mod Asking

@@ -19,7 +19,7 @@ known_grown k m = record {
 abbrev pub known_turned : Known → Known
 known_turned k = record k { buffer = turn k.buffer }
 
--- a projection whose members can be set once more
-abbrev pub IsProjection : Held → Type 0
-IsProjection (Held.Base x) = ⊥
-IsProjection (Held.Projection p turns) = turns + 1 < 2 ^ 32
+-- a buffer that can be changed once more otherwise than by an edit
+abbrev pub CanTurn : Held → Type 0
+CanTurn (Held.Base x) = ⊥
+CanTurn (Held.Projection p turns) = turns + 1 < 2 ^ 32

@@ -1,10 +1,14 @@
 //! Buffers that go along with their sources.
 ghost use Rattle.std.specs.Prelude.{◌≡◌, ◌-◌, ◌^◌, ◌<◌, length};
 ghost use Rattle.ed_members.specs.Steps.{steps_seen};
-ghost use Rattle.ed_held.specs.Advancing.{Advances, CanAdvance, CanAdvanceHeld, HasAdvanced, sources_held};
+ghost use Rattle.ed_project.specs.Records.{shown_now};
+ghost use Rattle.ed_held.specs.Advancing.{Advances, CanAdvance, CanGoOn};
+ghost use Rattle.ed_held.specs.OfProjections.{GoesAlong};
+ghost use Rattle.ed_held.specs.Seen.{known, last_of};
 
 use crate::held::Held;
-use ed_base::{BufferNo, Steps, VersionNo};
+use crate::moves::Planned;
+use ed_base::Steps;
 use ed_members::SourceStep;
 use ed_project::{NextRecord, Projection, ProjectionFault};
 use ed_version::Snapshot;
@@ -23,9 +27,9 @@ fn counted<L: Ledger>(
     requires name { blank.name ≡ L.name }
     requires parts { blank.parts ≡ L.parts }
     requires some { 0 < blank.parts }
-    requires can { CanAdvance (steps_seen steps.now) sources.now projection.old }
+    requires can { CanAdvance projection.old.buffer (steps_seen steps.now) sources.now (shown_now projection.old).members }
     requires number { length projection.old.versions < 2 ^ 32 - 1 }
-    ensures { Advances (steps_seen steps.now) sources.now projection.old projection.new result }
+    ensures { GoesAlong (steps_seen steps.now) sources.now projection.old projection.new result }
 {
     let mut count = Steps::<L>::begin(blank);
     projection.advance(alloc, sources, steps, &mut count)
@@ -38,8 +42,8 @@ fn advanced(
     sources: &[Snapshot],
     steps: &[SourceStep],
 ) -> Result<NextRecord, ProjectionFault>
-    requires can { CanAdvance (steps_seen steps.now) sources.now projection.old }
-    ensures { Advances (steps_seen steps.now) sources.now projection.old projection.new result }
+    requires can { CanAdvance projection.old.buffer (steps_seen steps.now) sources.now (shown_now projection.old).members }
+    ensures { GoesAlong (steps_seen steps.now) sources.now projection.old projection.new result }
 {
     if projection.is_full() {
         return Err(ProjectionFault::OutOfMemory);
@@ -47,18 +51,8 @@ fn advanced(
     counted::<Brand>(alloc, projection, sources, steps, Blank::new(1))
 }
 
-/// The versions that a buffer names at its current version.
-pub fn sources_of(held: &Held) -> &[(BufferNo, VersionNo)]
-    ensures { result.now ≡ sources_held held.now }
-{
-    match held {
-        Held::Base(_) => &[],
-        Held::Projection { projection, .. } => projection.sources(projection.now()).as_slice(),
-    }
-}
-
-/// Plans the next version of a projection that is held, over these snapshots of its sources, which
-/// have stepped so.
+/// Plans the next version of a buffer that stands on others, over these snapshots of its sources,
+/// which have stepped so.
 ///
 /// # Errors
 ///
@@ -68,12 +62,19 @@ pub fn planned(
     held: &mut Held,
     sources: &[Snapshot],
     steps: &[SourceStep],
-) -> Result<NextRecord, ProjectionFault>
-    requires { CanAdvanceHeld (steps_seen steps.now) sources.now held.old }
-    ensures { HasAdvanced (steps_seen steps.now) sources.now held.old held.new result }
+) -> Result<Planned, ProjectionFault>
+    requires { CanGoOn (known held.old).number (steps_seen steps.now) sources.now (last_of (known held.old).buffer) }
+    ensures { Advances (steps_seen steps.now) sources.now held.old held.new result }
 {
     match held {
-        Held::Base(_) => Err(ProjectionFault::OutOfMemory),
-        Held::Projection { projection, .. } => advanced(alloc, projection, sources, steps),
+        Held::Base(_) => unreachable!(),
+        Held::Projection { projection, .. } => {
+            // It has a version.
+            let _now = projection.now();
+            match advanced(alloc, projection, sources, steps) {
+                Ok(next) => Ok(Planned::Projection(next)),
+                Err(fault) => Err(fault),
+            }
+        }
     }
 }

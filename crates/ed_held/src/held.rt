@@ -5,18 +5,18 @@ ghost use Rattle.ed_base.specs.Denial.{denied_at};
 ghost use Rattle.ed_base.specs.Numbers.{places};
 ghost use Rattle.ed_base.specs.Spans.{end_of};
 ghost use Rattle.ed_callbacks.specs.HookLists.{hook_table};
-ghost use Rattle.ed_layers.specs.Records.{is_carrier, is_elision, members_of};
+ghost use Rattle.ed_layers.specs.Records.{is_carrier, is_elision, members_of, sources_of};
 ghost use Rattle.ed_readonly.specs.LiveRegions.{limit_passed, limit_told};
 ghost use Rattle.ed_track.specs.Linked.{AreLinked, len_after, len_before};
 ghost use Rattle.ed_held.specs.Asking.{IsBase, regions_of, with_region, without_region, zoned};
-ghost use Rattle.ed_held.specs.Making.{IsProjection, known_grown, known_turned};
+ghost use Rattle.ed_held.specs.Making.{CanTurn, known_grown, known_turned};
 ghost use Rattle.ed_held.specs.declared.moves.Move.{Move};
 ghost use Rattle.ed_held.specs.Moves.{CanMake};
 ghost use Rattle.ed_held.specs.Seen.{known, last_of, reiterated_of, text_of};
 
 use crate::moves::{Move, Planned};
 use ed_base::{
-    Changes, EdgeMode, Name, NumberList, OutOfMemory, RegionNo, Span, SpanMode, VersionNo,
+    BufferNo, Changes, EdgeMode, Name, NumberList, OutOfMemory, RegionNo, Span, SpanMode, VersionNo,
 };
 use ed_buffer::Base;
 use ed_callbacks::Hooks;
@@ -210,7 +210,7 @@ impl Held {
     fn make(&mut self, planned: Planned)
         requires { CanMake self.old planned }
         ensures known { (m : Move) → m.planned ≡ planned → known self.new ≡ known_grown (known self.old) m }
-        ensures turning { IsProjection self.old → IsProjection self.new }
+        ensures turning { CanTurn self.old → CanTurn self.new }
     {
         match (self, planned) {
             (Held::Base(base), Planned::Base(step)) => {
@@ -227,7 +227,7 @@ impl Held {
     pub fn commit(&mut self, next: Move)
         requires { CanMake self.old next.planned }
         ensures known { known self.new ≡ known_grown (known self.old) next }
-        ensures turning { IsProjection self.old → IsProjection self.new }
+        ensures turning { CanTurn self.old → CanTurn self.new }
     {
         let Move { planned, .. } = next;
         self.make(planned);
@@ -235,7 +235,7 @@ impl Held {
 
     /// One turn more of a projection.
     pub fn turn(&mut self)
-        requires { IsProjection self.old }
+        requires { CanTurn self.old }
         ensures { known self.new ≡ known_turned (known self.old) }
     {
         match self {
@@ -246,11 +246,21 @@ impl Held {
 
     /// Whether it is a projection whose members can be set once more.
     pub fn can_turn(&self) -> bool
-        ensures { result ≡ true → IsProjection self.now }
+        ensures { result ≡ true → CanTurn self.now }
     {
         match self {
             Held::Base(_) => false,
             Held::Projection { turns, .. } => *turns < u32::MAX,
+        }
+    }
+
+    /// The versions of the sources that the current version names. A base has none.
+    pub fn sources(&self) -> &[(BufferNo, VersionNo)]
+        ensures { result.now ≡ sources_of (last_of (known self.now).buffer) }
+    {
+        match self {
+            Held::Base(_) => &[],
+            Held::Projection { projection, .. } => projection.sources(projection.now()).as_slice(),
         }
     }
 

@@ -8,7 +8,7 @@ mod lands;
 mod moves;
 mod respans;
 
-pub use advances::{planned, sources_of};
+pub use advances::planned;
 pub use held::Held;
 pub use lands::landing;
 pub use moves::{Move, Planned};

@@ -1,18 +1,22 @@
 //! Projections that show other members.
-ghost use Rattle.std.specs.Prelude.{◌≡◌, ◌+◌, ◌≤◌, ◌^◌, All, length, IfOk};
-ghost use Rattle.ed_layers.specs.Records.{members_len};
+ghost use Rattle.std.specs.Prelude.{◌≡◌, ◌+◌, ◌<◌, ◌≤◌, ◌^◌, All, length, true, false, IfOk};
+ghost use Rattle.ed_layers.specs.Records.{is_carrier, is_elision, members_len};
+ghost use Rattle.ed_project.specs.Records.{shown_now};
 ghost use Rattle.ed_project.specs.Texts.{HasSource, no_steps};
 ghost use Rattle.ed_stock.specs.Making.{spans_replaced};
-ghost use Rattle.ed_held.specs.Respanning.{CanRespan, HasRespanned, IsPart, Respans, held_members};
+ghost use Rattle.ed_held.specs.OfProjections.{Respans};
+ghost use Rattle.ed_held.specs.Respanning.{CanRespan, HasRespanned, IsPart, held_members};
+ghost use Rattle.ed_held.specs.Seen.{known, last_of};
 
 use crate::held::Held;
+use crate::moves::Planned;
 use ed_base::{Member, OutOfMemory};
 use ed_members::Members;
 use ed_project::{NextRecord, Projection};
 use ed_version::Snapshot;
 use std::alloc::Global;
 
-/// The members of a projection that is held, with `removed` of them from `first` on replaced.
+/// The members of a projection, with `removed` of them from `first` on replaced.
 ///
 /// # Errors
 ///
@@ -24,11 +28,13 @@ pub fn members_with(
     removed: u32,
     members: Vec<Member>,
 ) -> Result<Vec<Member>, OutOfMemory>
-    requires { first + removed ≤ length (held_members held.now) }
+    requires carrier { is_carrier (last_of (known held.now).buffer) ≡ true }
+    requires plain { is_elision (last_of (known held.now).buffer) ≡ false }
+    requires part { first + removed ≤ length (held_members held.now) }
     ensures { IfOk result (λ v. v.items ≡ spans_replaced (held_members held.now) first removed members.items) }
 {
     match held {
-        Held::Base(_) => Err(OutOfMemory),
+        Held::Base(_) => unreachable!(),
         Held::Projection { projection, .. } => {
             projection
                 .members(projection.now())
@@ -46,7 +52,7 @@ fn respanned(
     removed: u32,
     sources: &[Snapshot],
 ) -> Result<NextRecord, OutOfMemory>
-    requires part { IsPart projection.old first removed members }
+    requires part { IsPart (shown_now projection.old).members first removed members }
     requires there { All (HasSource no_steps sources.now) members }
     requires fits { members_len members ≤ 2 ^ 22 }
     ensures { Respans sources.now projection.old projection.new first removed members result }
@@ -57,8 +63,8 @@ fn respanned(
     projection.set_spans(alloc, members, first, removed, sources)
 }
 
-/// Plans the version of a projection that is held that shows these members, which are the current
-/// ones but for `removed` of them from `first` on, over these snapshots of their sources.
+/// Plans the version of a projection that shows these members, which are the current ones but for
+/// `removed` of them from `first` on, over these snapshots of their sources.
 ///
 /// # Errors
 ///
@@ -70,16 +76,21 @@ pub fn respan(
     first: u32,
     removed: u32,
     sources: &[Snapshot],
-) -> Result<NextRecord, OutOfMemory>
+) -> Result<Planned, OutOfMemory>
     requires part { CanRespan held.old first removed members }
     requires there { All (HasSource no_steps sources.now) members }
     requires fits { members_len members ≤ 2 ^ 22 }
     ensures { HasRespanned sources.now held.old held.new first removed members result }
 {
     match held {
-        Held::Base(_) => Err(OutOfMemory),
+        Held::Base(_) => unreachable!(),
         Held::Projection { projection, .. } => {
-            respanned(alloc, projection, members, first, removed, sources)
+            // It has a version.
+            let _now = projection.now();
+            match respanned(alloc, projection, members, first, removed, sources) {
+                Ok(next) => Ok(Planned::Projection(next)),
+                Err(fault) => Err(fault),
+            }
         }
     }
 }

@@ -1,6 +1,6 @@
 -- What a stock between groups gives to edits, and what they lead to.
-use Rattle.std.proofs.Common.{◌≡◌, ℕ, ◌+◌, ◌<◌, ◌≤◌, ◌^◌, Bool, true, false, List, [], ◌∷◌, ◌++◌, length, map, Option, Some, None, Ok, Err, refl, sym, ap, ◌∙◌, subst, arith}
-use Rattle.std.specs.Prelude.{All, flat_map, slice_index_or, sum_by}
+use Rattle.std.proofs.Common.{◌≡◌, ℕ, ◌+◌, ◌<◌, ◌≤◌, ◌^◌, false, List, [], ◌∷◌, ◌++◌, length, map, Option, Some, None, Ok, Err, refl, sym, ap, ◌∙◌, subst, arith}
+use Rattle.std.specs.Prelude.{slice_index_or}
 use Rattle.std.specs.List.{AllByRecursion as Each}
 use Rattle.std.proofs.lemmas.Bool.{ltb-false}
 use Rattle.std.proofs.lemmas.List.{length-map}
@@ -40,8 +40,8 @@ use Rattle.ed_climb.specs.declared.counts.Counts.{Counts}
 use Rattle.ed_climb.proofs.Groups.{leads}
 use Rattle.ed_climb.proofs.Routes.{graph_len, order_same, sources_same}
 use Rattle.ed_landing.specs.EditedStock.{edits_fault, edits_landed, edits_sent}
-use Rattle.ed_landing.specs.Landings.{AllLanded, HaveArrived, HaveLanded, StandOn, landing_fault}
-use Rattle.ed_landing.proofs.Ended.{begins, lands_all, members_still, theirs_kept}
+use Rattle.ed_landing.specs.Landings.{AllLanded, HaveArrived, StandOn, landing_fault}
+use Rattle.ed_landing.proofs.Ended.{begins, lands_all, theirs_kept}
 
 few_each : (s : Stock) → first_some (stock_limits s) ≡ None → (c : ℕ) → c < count s → length (members_of (record_now s c)) ≤ 1024
 few_each s within c there = ltb-false 1024 (member_count s c) (none_past 1024 (member_count s) (graph_order s) c (none_of Which.Members 1024 (map (member_count s) (graph_order s)) (few_members s within)) (in_order s c there))
@@ -116,13 +116,13 @@ module _ (hooks : HookTable) (hs : List Held) (graph : List (List ℕ)) (on : St
       ∙ ap (λ o. first_some (None ∷ o ∷ limits ∷ [])) all.0
       ∙ or_none limits
 
-  pub leads_to : (f : FirstMoves) → f.graph ≡ graph → f.moves.items ≡ ms → f.turned ≡ None → f.members ≡ None → map (λ x. (x.source, step_seen x)) f.steps.items ≡ map move_seen f.moves.items
+  pub leads_to : (f : FirstMoves) → f.graph ≡ graph → f.moves.items ≡ ms → f.turned ≡ None → map (λ x. (x.source, step_seen x)) f.steps.items ≡ map move_seen f.moves.items
       → LeadsTo hs' (edits_fault hooks (stock hs) edits) (edits_landed hooks (stock hs) edits) f
-  leads_to f graph_is moves_are turned members seen =
-      leads hs hs' same f graph ms None None graph_is moves_are turned members [] all.1.done
+  leads_to f graph_is moves_are turned seen =
+      leads hs hs' same f graph ms None graph_is moves_are turned [] all.1.done
       (begins hooks hs graph on (edits_sent hooks (stock hs) edits) hs' ms same all.1
       (theirs_kept hooks hs graph on (edits_sent hooks (stock hs) edits) hs' ms same all.1 (pieces_of_edits edits) refl (edits_plain edits) accepted))
-      seen (members_still hooks hs graph on (edits_sent hooks (stock hs) edits) hs' ms same all.1) tt
+      seen tt
       (edits_fault hooks (stock hs) edits) (edits_landed hooks (stock hs) edits) (lands_all hooks hs graph on (edits_sent hooks (stock hs) edits) hs' ms same all.1) allowed
 
 -- what was answered wasn't refused

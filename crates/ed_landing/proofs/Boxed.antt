@@ -1,9 +1,9 @@
 -- What a box asks of the buffer that it is for.
-use Rattle.std.proofs.Common.{◌≡◌, ℕ, ◌<◌, ◌≤◌, ◌^◌, Bool, true, false, not, ◌&&◌, List, [], length, map, Some, refl, sym, ap, ◌∙◌, subst, arith}
+use Rattle.std.proofs.Common.{◌≡◌, ℕ, ◌<◌, ◌≤◌, ◌^◌, Bool, true, false, not, ◌&&◌, List, [], length, map, Some, refl, sym, ap, ◌∙◌, subst}
 use Rattle.std.specs.Prelude.{nat_eq, slice_get, slice_index_or}
 use Rattle.std.proofs.lemmas.List.{length-map}
 use Rattle.ed_base.specs.declared.Piece.{Piece}
-use Rattle.ed_buffer.specs.Planning.{AreInside, Base, put_in}
+use Rattle.ed_buffer.specs.Planning.{AreInside, put_in}
 use Rattle.ed_layers.specs.Records.{is_carrier}
 use Rattle.ed_version.specs.Chain as chain
 use Rattle.ed_stock.specs.Landing.{pieces_at}
@@ -11,7 +11,7 @@ use Rattle.ed_stock.specs.Stock.{Buffer, buffer, count, record_now, text_now}
 use Rattle.ed_risen.specs.Rising.{IsSettled}
 use Rattle.ed_held.specs.declared.held.Held.{Held}
 use Rattle.ed_held.specs.Landing.{CanLand}
-use Rattle.ed_held.specs.Seen.{known, last_of, seen, stock, stock_of}
+use Rattle.ed_held.specs.Seen.{known, last_of, stock, stock_of}
 use Rattle.ed_held.proofs.KindLemmas.{base_held}
 use Rattle.ed_held.specs.Asking.{IsBase}
 use Rattle.ed_climb.specs.Route.{AreTrue}
@@ -28,11 +28,7 @@ module _ (hs : List Held) (graph : List (List ℕ)) (on : StandOn hs graph) (pen
   same_stock : stock buffers ≡ stock hs
   same_stock = ap stock_of same
 
-  seen_known : (x : Held) → (known x).buffer ≡ seen x
-  seen_known (Held.Base x) = refl
-  seen_known (Held.Projection p turns) = refl
-
-  buffer_is : buffer (stock hs) b ≡ seen h
+  buffer_is : buffer (stock hs) b ≡ (known h).buffer
   buffer_is = ap (λ z. buffer z b) (sym same_stock) ∙ held_buffer buffers b h held
 
   bare : is_carrier (last_of (known h).buffer) ≡ false
@@ -43,19 +39,20 @@ module _ (hs : List Held) (graph : List (List ℕ)) (on : StandOn hs graph) (pen
       by true e h = absurd (let z : false ≡ true = h in cc)
 
   base_here : is_carrier (record_now (stock hs) b) ≡ false
-  base_here = ap (λ x. is_carrier (last_of x)) (buffer_is ∙ sym (seen_known h)) ∙ bare
+  base_here = ap (λ x. is_carrier (last_of x)) buffer_is ∙ bare
 
   some : 0 < length (known h).buffer.records
-  some = subst (λ (x : Buffer). 0 < length x.records) (buffer_is ∙ sym (seen_known h)) (on.settled.some b there)
+  some = subst (λ (x : Buffer). 0 < length x.records) buffer_is (on.settled.some b there)
 
   pub can_take : CanLand h (slice_index_or boxes b [])
-  can_take = by h refl (base_held h some bare)
-    where
-      by : (x : Held) → h ≡ x → IsBase h → CanLand x (slice_index_or boxes b [])
-      by (Held.Base x) is kind =
-          let text : chain.text_now x.chain.versions ≡ text_now (stock hs) b = text_held buffers (subst AreTrue (sym same) on.true) (subst IsSettled (sym same_stock) on.settled) b (subst (λ z. b < count z) (sym same_stock) there) x (held ∙ ap Some is) ∙ ap (λ z. text_now z b) same_stock in
-          subst (λ ps. AreInside (length (chain.text_now x.chain.versions)) ps) (sym (arrived.pieces b there base_here)) (subst (λ t. AreInside (length t) (pieces_at pending b)) (sym text) (arrived.inside b there base_here))
-      by (Held.Projection p turns) is kind = absurd (subst IsBase is kind)
+  can_take =
+      let x : IsBase h = base_held h some bare in
+      let text : chain.text_now x.0.chain.versions ≡ text_now (stock hs) b = text_held buffers (subst AreTrue (sym same) on.true) (subst IsSettled (sym same_stock) on.settled) b (subst (λ z. b < count z) (sym same_stock) there) x.0 (held ∙ ap Some x.1) ∙ ap (λ z. text_now z b) same_stock in
+      record {
+        base = x.0;
+        is = x.1;
+        inside = subst (λ ps. AreInside (length (chain.text_now x.0.chain.versions)) ps) (sym (arrived.pieces b there base_here)) (subst (λ t. AreInside (length t) (pieces_at pending b)) (sym text) (arrived.inside b there base_here));
+      }
 
   pub few_put_in : put_in (slice_index_or boxes b []) ≤ 2 ^ 27
   few_put_in = subst (λ ps. put_in ps ≤ 2 ^ 27) (sym (arrived.pieces b there base_here)) (arrived.put_in b there base_here)

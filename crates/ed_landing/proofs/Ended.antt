@@ -1,42 +1,41 @@
 -- Once all buffers have been looked at: what a text that would be too long comes to, and how the way up begins.
-use Rattle.std.proofs.Common.{◌≡◌, ◌≢◌, ℕ, suc, ◌+◌, ◌<◌, ◌≤◌, ◌^◌, true, false, List, [], ◌∷◌, ◌++◌, length, map, fold, Option, Some, None, Ok, Err, Result, refl, sym, ap, ◌∙◌, subst, inl, inr, arith}
-use Rattle.std.specs.Prelude.{slice_get, MatchOption, MatchResult}
+use Rattle.std.proofs.Common.{◌≡◌, ◌≢◌, ℕ, ◌<◌, ◌≤◌, ◌^◌, false, List, [], ◌∷◌, length, map, fold, Option, Some, None, Ok, Err, Result, refl, sym, ap, ◌∙◌, subst, inl, inr, arith}
+use Rattle.std.specs.Prelude.{MatchResult}
 use Rattle.std.specs.Result.{IsErr, IsErrAnd}
 use Rattle.std.specs.List.{AllByRecursion as Each}
-use Rattle.std.proofs.lemmas.Bool.{cases_Bool, cases_lt}
+use Rattle.std.proofs.lemmas.Bool.{cases_Bool}
 use Rattle.std.proofs.lemmas.List.{length-map}
 use Rattle.ed_base.specs.declared.Piece.{Piece}
 use Rattle.ed_base.specs.declared.refusal.Refusal.{Refusal}
 use Rattle.ed_base.specs.declared.refusal.Which.{Which}
 use Rattle.ed_base.specs.Hooks.{HookTable}
-use Rattle.ed_base.specs.Numbers.{first_some, is_among, or_else}
-use Rattle.ed_graph.specs.Standing.{IsLevelled, height_in, order_in, sources_in}
+use Rattle.ed_base.specs.Numbers.{first_some}
+use Rattle.ed_graph.specs.Standing.{height_in, order_in}
 use Rattle.ed_layers.specs.Pieces.{marked_text}
-use Rattle.ed_layers.specs.Records.{Record, projection}
-use Rattle.ed_stock.specs.Landing.{denial, denied_in, down_fault, landed, pieces_at, sent_down}
-use Rattle.ed_stock.specs.Limits.{some_over, stock_limits}
-use Rattle.ed_stock.specs.Stock.{Stock, count, graph_order, record_now, sources_now, text_now}
+use Rattle.ed_stock.specs.Landing.{denial, down_fault, landed, pieces_at, sent_down}
+use Rattle.ed_stock.specs.Limits.{stock_limits}
+use Rattle.ed_stock.specs.Stock.{Stock, count, graph_order, sources_now, text_now}
 use Rattle.ed_stock.specs.Versions.{Rising, is_moved, none_given, risen, risen_at, step_in}
 use Rattle.ed_layers.specs.Graph as layers
-use Rattle.ed_risen.specs.Counting.{member_count}
 use Rattle.ed_risen.specs.Rising.{Rises}
 use Rattle.ed_risen.specs.Start.{IsStart}
-use Rattle.ed_risen.proofs.Limits.{few_buffers, few_members, members_fit, texts_fit}
+use Rattle.ed_risen.proofs.Limits.{few_buffers, texts_fit}
 use Rattle.ed_risen.proofs.Lists.{each_behind}
-use Rattle.ed_risen.proofs.Starts.{all_there, first_order}
+use Rattle.ed_risen.proofs.Starts.{all_there}
 use Rattle.ed_sending.proofs.Groups.Advances.{advances_along}
 use Rattle.ed_sending.proofs.Groups.SettledStocks.{ready_of}
-use Rattle.ed_sending.proofs.Groups.LandedBases.{AreLanded, is_reached, landed_all, landed_below, landed_members, landed_start, long_refused, quiet, reached_below, text_landed, text_still}
+use Rattle.ed_sending.proofs.Groups.LandedBases.{AreLanded, landed_all, landed_start, long_refused, quiet, text_landed, text_still}
 use Rattle.ed_held.specs.declared.held.Held.{Held}
 use Rattle.ed_held.specs.declared.moves.Move.{Move}
 use Rattle.ed_held.specs.Moves.{rising_of}
-use Rattle.ed_held.specs.Seen.{known, stock, stock_of}
+use Rattle.ed_held.specs.Seen.{known, stock}
 use Rattle.ed_climb.specs.Begins.{Begins, way}
 use Rattle.ed_climb.specs.Refusals.{Refuses}
 use Rattle.ed_climb.specs.Route.{AllKeepTheirs, Climbs, KeepTheirs}
 use Rattle.ed_climb.specs.declared.fault.PlanFault.{PlanFault}
-use Rattle.ed_landing.specs.Landings.{AllLanded, HaveArrived, HaveLanded, IsFirstLong, SoFar, StandOn, landing_fault, len_left}
+use Rattle.ed_landing.specs.Landings.{AllLanded, HaveArrived, HaveLanded, IsFirstLong, SoFar, StandOn, landing_fault}
 use Rattle.ed_landing.proofs.LandMore.{none_yet}
+use Rattle.ed_sending.specs.LandedBelow.{is_reached, landed_below}
 
 module _ (hooks : HookTable) (hs : List Held) (graph : List (List ℕ)) (on : StandOn hs graph) (pending : List (ℕ × Piece)) (hs' : List Held) (ms : List Move) where
   abbrev s : Stock
@@ -95,11 +94,6 @@ module _ (hooks : HookTable) (hs : List Held) (graph : List (List ℕ)) (on : St
       covers = λ c i. absurd (cc);
       fits = fits;
     }
-
-    pub members_still : some_over Which.Members 1024 (map (member_count (rising_of (stock hs) ms).stock) (order_in graph)) ≡ None
-    members_still =
-        ap (λ xs. some_over Which.Members 1024 (map (member_count first.stock) xs)) (sym (first_order s graph first start))
-        ∙ members_fit s first.stock start.same_count (few_members s on.within) (λ c there. ap (λ (z : Rising). member_count z.stock c) h.landed ∙ landed_members s graph on.settled on.levelled on.as_long on.names pending (count s) (omega arith) c there)
 
     pub lands_all : risen none_given (rising_of (stock hs) ms) ≡ landed (stock hs) pending none_given none_given
     lands_all = ap (risen none_given) h.landed ∙ sym (landed_all s pending)

@@ -1,24 +1,20 @@
 -- One more base on which pieces land, after those with lower numbers.
-use Rattle.std.proofs.Common.{◌≡◌, ◌≢◌, ℕ, zero, suc, ◌+◌, ◌-◌, ◌<◌, ◌≤◌, ◌^◌, true, false, List, [], ◌∷◌, ◌++◌, length, map, fold, Option, Some, None, refl, sym, ap, ◌∙◌, subst, inl, inr, arith}
+use Rattle.std.proofs.Common.{◌≡◌, ◌≢◌, ℕ, ◌+◌, ◌-◌, ◌<◌, ◌≤◌, ◌^◌, true, false, List, [], ◌∷◌, ◌++◌, length, map, Option, Some, None, refl, sym, ap, ◌∙◌, subst, inl, inr, arith}
 use Rattle.std.specs.Prelude.{option_map, slice_get, slice_set, unwrap_or, MatchOption}
 use Rattle.std.specs.List.{AllByRecursion as Each}
 use Rattle.std.proofs.lemmas.Bool.{cases_eq}
 use Rattle.std.proofs.lemmas.List.{length-map, map-append}
 use Rattle.ed_base.specs.declared.Piece.{Piece}
-use Rattle.ed_base.specs.ChangeList.{ChangeList, change_list, new_len, step}
-use Rattle.ed_base.specs.Numbers.{is_among}
-use Rattle.ed_base.specs.Step.{Step}
+use Rattle.ed_base.specs.ChangeList.{change_list, new_len, step}
 use Rattle.ed_buffer.specs.Planning as buffers
 use Rattle.ed_buffer.specs.Planning.{Base, NextVersion, changes_left, text_left}
 use Rattle.ed_layers.specs.Pieces.{marked_text, step_of_pieces}
-use Rattle.ed_layers.specs.Records.{Record, base, is_carrier}
-use Rattle.ed_layers.specs.SourceStep.{SourceStep}
+use Rattle.ed_layers.specs.Records.{Record, base}
 use Rattle.ed_pieces.specs.Trails.{trails_in}
 use Rattle.ed_version.specs.Chain as chain
-use Rattle.ed_version.specs.declared.Snapshot.{Snapshot}
 use Rattle.ed_version.specs.declared.Version.{Version}
 use Rattle.ed_stock.specs.Landing.{base_changes, landed_at, pieces_at}
-use Rattle.ed_stock.specs.Stock.{Stock, Buffer, buffer, count, now, record_at, record_now, text_at, text_now}
+use Rattle.ed_stock.specs.Stock.{Stock, Buffer, buffer, count, now, record_at, text_at, text_now}
 use Rattle.ed_stock.specs.Versions.{Rising, none_given, with_version}
 use Rattle.ed_risen.specs.Growing.{Grows}
 use Rattle.ed_risen.specs.Rising.{IsSettled, Rises}
@@ -27,19 +23,20 @@ use Rattle.ed_risen.proofs.Lists.{each_push, fold_push, get_map}
 use Rattle.ed_risen.proofs.Texts.{base_text}
 use Rattle.ed_risen.proofs.RisingLemmas.{get_last, some_records}
 use Rattle.ed_graph.specs.Standing.{height_in}
-use Rattle.ed_sending.proofs.Groups.LandedBases.{AreLanded, is_reached, landed_below, landed_next, landed_not, next_landed, none_landed, not_landed, now_still, text_still}
+use Rattle.ed_sending.proofs.Groups.LandedBases.{AreLanded, landed_next, landed_not, next_landed, none_landed, not_landed, now_still, text_still}
 use Rattle.ed_sending.proofs.Texts.PiecesAgain.{marked_length, step_again}
 use Rattle.ed_held.specs.declared.held.Held.{Held}
 use Rattle.ed_held.specs.declared.moves.Move.{Move}
 use Rattle.ed_held.specs.declared.moves.Planned.{Planned}
 use Rattle.ed_held.specs.Landing.{IsNextBy}
-use Rattle.ed_held.specs.Moves.{AreApart, CanMake, IsPlannedAt, move_seen, rising_of, step_of, with_move}
+use Rattle.ed_held.specs.Moves.{CanMake, IsPlannedAt, move_seen, rising_of, with_move}
 use Rattle.ed_held.specs.Seen.{base_record, known, seen, stock, stock_of}
-use Rattle.ed_climb.specs.Route.{AreTrue, IsNewest, newest}
+use Rattle.ed_climb.specs.Route.{AreTrue, IsNewest}
 use Rattle.ed_climb.proofs.Climb.{apart_push, rising_to, snapshot_by, stepped_by}
 use Rattle.ed_climb.proofs.Snapshots.{held_buffer, newest_same}
 use Rattle.ed_landing.specs.Bases.{move_by}
 use Rattle.ed_landing.specs.Landings.{HaveLanded, StandOn, len_left}
+use Rattle.ed_sending.specs.LandedBelow.{is_reached, landed_below}
 
 -- ---- a base that is held
 

@@ -26,38 +26,42 @@ which_fault X None e h = inl h
 which_fault X (Some f) e (inl same) = inr (ap Some (sym same))
 which_fault X (Some f) e (inr memory) = inl memory
 
-module _ (hooks : HookTable) (hs : List Held) (ms : List Move) (b : ℕ) (ps : List Piece) where
+module _ (hooks : HookTable) (hs : List Held) (ms : List Move) (b : ℕ) (ps : List Piece) (old new : Held) where
   -- what is known of the buffers stays
-  pub landed_known : (old new : Held) (result : Result NextVersion BaseFault) → slice_get hs b ≡ Some old → HasLanded hooks old new ps result → map known (slice_set hs b new) ≡ map known hs
-  landed_known (Held.Base x) new result held h = ap (λ y. map known (slice_set hs b y)) h.1 ∙ map_set known hs b (Held.Base x) (Held.Base h.0) held (same_known x h.0 h.2.same)
-  landed_known (Held.Projection p turns) new result held h = absurd h
+  pub landed_known : (result : Result NextVersion BaseFault) → slice_get hs b ≡ Some old → HasLanded hooks old new ps result → map known (slice_set hs b new) ≡ map known hs
+  landed_known result held h = map_set known hs b old new held (ap known h.new_is ∙ same_known h.before h.after h.lands.same ∙ ap known (sym h.old_is))
 
-  pub landed_ok : (old new : Held) (st : NextVersion) (ms' : List Move) → HasLanded hooks old new ps (Ok st) → ms' ≡ ms ++ move_by b st ∷ [] → HasLandedAmong hooks hs (slice_set hs b new) ms ms' b old ps (Ok tt)
-  landed_ok (Held.Base x) new st ms' h is = (
-    no_fault (fault_of hooks x (changes_left ps (text_now x.chain.versions))) st h.2.fault,
-    record {
-      base = h.0;
-      next = st;
-      set = ap (slice_set hs b) h.1;
-      moves = is;
-      same = h.2.same;
-      planned = h.2.planned;
-      by = h.2.next;
-    },
+  pub landed_ok : (st : NextVersion) (ms' : List Move) → HasLanded hooks old new ps (Ok st) → ms' ≡ ms ++ move_by b st ∷ [] → HasLandedAmong hooks hs (slice_set hs b new) ms ms' b old ps (Ok tt)
+  landed_ok st ms' h is = (
+    h.before,
+    h.old_is,
+    (
+      no_fault (fault_of hooks h.before (changes_left ps (text_now h.before.chain.versions))) st h.lands.fault,
+      record {
+        base = h.after;
+        next = st;
+        set = ap (slice_set hs b) h.new_is;
+        moves = is;
+        same = h.lands.same;
+        planned = h.lands.planned;
+        by = h.lands.next;
+      },
+    ),
   )
-  landed_ok (Held.Projection p turns) new st ms' h is = absurd h
 
-  pub landed_err : (old new : Held) (e : BaseFault) (ms' : List Move) → HasLanded hooks old new ps (Err e) → ms' ≡ ms → HasLandedAmong hooks hs (slice_set hs b new) ms ms' b old ps (Err e)
-  landed_err (Held.Base x) new e ms' h is = elim (which_fault NextVersion (fault_of hooks x (changes_left ps (text_now x.chain.versions))) e h.2.fault) [
-    | inl memory ↦ inl memory
-    | inr fault ↦ inr (fault, is)
-  ]
-  landed_err (Held.Projection p turns) new e ms' h is = absurd h
+  pub landed_err : (e : BaseFault) (ms' : List Move) → HasLanded hooks old new ps (Err e) → ms' ≡ ms → HasLandedAmong hooks hs (slice_set hs b new) ms ms' b old ps (Err e)
+  landed_err e ms' h is = (
+    h.before,
+    h.old_is,
+    elim (which_fault NextVersion (fault_of hooks h.before (changes_left ps (text_now h.before.chain.versions))) e h.lands.fault) [
+      | inl memory ↦ inl memory
+      | inr fault ↦ inr (fault, is)
+    ],
+  )
 
-  pub landed_lost : (old new : Held) (result : Result NextVersion BaseFault) (ms' : List Move) (r : Result (Unit {0}) BaseFault) → IsErr r → IsErrAnd r (λ e. e ≡ BaseFault.OutOfMemory) → HasLanded hooks old new ps result → HasLandedAmong hooks hs (slice_set hs b new) ms ms' b old ps r
-  landed_lost (Held.Base x) new result ms' (Ok y) is that h = absurd (cc)
-  landed_lost (Held.Base x) new result ms' (Err e) is that h = inl that
-  landed_lost (Held.Projection p turns) new result ms' r is that h = absurd h
+  pub landed_lost : (result : Result NextVersion BaseFault) (ms' : List Move) (r : Result (Unit {0}) BaseFault) → IsErr r → IsErrAnd r (λ e. e ≡ BaseFault.OutOfMemory) → HasLanded hooks old new ps result → HasLandedAmong hooks hs (slice_set hs b new) ms ms' b old ps r
+  landed_lost result ms' (Ok y) is that h = absurd (cc)
+  landed_lost result ms' (Err e) is that h = (h.before, h.old_is, inl that)
 
 -- the buffer that is there is the one that was found
 pub found_same : (hs : List Held) (b : ℕ) (old h : Held) → slice_get hs b ≡ Some old → slice_get hs b ≡ Some h → old ≡ h

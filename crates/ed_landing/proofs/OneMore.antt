@@ -1,39 +1,40 @@
 -- What is so once one more buffer has been looked at: it is passed by, a version lands on it, its text would be too long, or a region denies it.
-use Rattle.std.proofs.Common.{◌≡◌, ◌≢◌, ℕ, zero, suc, ◌+◌, ◌-◌, ◌<◌, ◌≤◌, ◌^◌, Bool, true, false, not, ◌&&◌, List, [], ◌∷◌, ◌++◌, length, map, Option, Some, None, Ok, Err, refl, sym, ap, ◌∙◌, subst, inl, inr, arith, append_assoc, length-append}
+use Rattle.std.proofs.Common.{◌≡◌, ℕ, zero, suc, ◌+◌, ◌-◌, ◌<◌, ◌^◌, Bool, true, false, not, ◌&&◌, List, [], ◌∷◌, ◌++◌, length, map, Option, Some, None, Ok, Err, refl, sym, ap, ◌∙◌, subst, inl, inr, arith, append_assoc}
 use Rattle.std.specs.Prelude.{filter, nat_eq, nat_lt, option_map, slice_get, slice_index_or, unwrap_or, if◌then◌else◌}
 use Rattle.std.specs.List.{range_with_len}
-use Rattle.std.proofs.lemmas.Bool.{cases_Bool, cases_lt, ltb-true, lt-ltb}
+use Rattle.std.proofs.lemmas.Bool.{cases_Bool, ltb-true}
 use Rattle.std.proofs.lemmas.List.{length-map}
 use Rattle.ed_base.specs.declared.Piece.{Piece}
 use Rattle.ed_base.specs.declared.refusal.Refusal.{Refusal}
-use Rattle.ed_base.specs.ChangeList.{ChangeList, change_list, new_len, step}
+use Rattle.ed_base.specs.ChangeList.{ChangeList, change_list, new_len}
 use Rattle.ed_base.specs.Denial.{first_denied}
 use Rattle.ed_base.specs.Hooks.{HookTable}
 use Rattle.ed_base.specs.Numbers.{first_some, or_else, places}
 use Rattle.ed_base.proofs.NormalSteps.{normal_new_len}
-use Rattle.ed_buffer.specs.Planning.{Base, changes_left, fault_of, text_left, too_long}
+use Rattle.ed_buffer.specs.Planning.{Base, changes_left, text_left, too_long}
 use Rattle.ed_buffer.specs.declared.BaseFault.{BaseFault}
 use Rattle.ed_layers.specs.Pieces.{marked_text, step_of_pieces}
 use Rattle.ed_layers.specs.Records.{is_carrier}
 use Rattle.ed_version.specs.Chain as chain
-use Rattle.ed_stock.specs.Landing.{base_changes, bases_reached, denial, denied_in, landed, pieces_at}
+use Rattle.ed_stock.specs.Landing.{base_changes, denial, denied_in, landed, pieces_at}
 use Rattle.ed_stock.specs.Limits.{stock_limits}
 use Rattle.ed_stock.specs.Stock.{Stock, Buffer, buffer, count, now, record_now, text_now}
 use Rattle.ed_stock.specs.Versions.{none_given}
 use Rattle.ed_risen.specs.Rising.{IsSettled}
-use Rattle.ed_sending.proofs.Groups.LandedBases.{is_reached, reached_below, reached_next, reached_not}
+use Rattle.ed_sending.proofs.Groups.LandedBases.{reached_next, reached_not}
 use Rattle.ed_sending.proofs.Texts.PiecesAgain.{marked_length, pieces_normal, step_again}
 use Rattle.ed_held.specs.declared.held.Held.{Held}
 use Rattle.ed_held.specs.declared.moves.Move.{Move}
-use Rattle.ed_held.specs.Seen.{known, last_of, seen, stock, stock_of}
+use Rattle.ed_held.specs.Seen.{known, last_of, stock, stock_of}
 use Rattle.ed_climb.specs.Refusals.{Refuses}
 use Rattle.ed_climb.specs.Route.{AreTrue}
 use Rattle.ed_climb.specs.declared.fault.PlanFault.{PlanFault}
 use Rattle.ed_climb.proofs.Snapshots.{held_buffer}
 use Rattle.ed_held.specs.Landing.{IsNextBy}
-use Rattle.ed_landing.specs.Bases.{HasLandedAmong, IsLanded, is_met}
+use Rattle.ed_landing.specs.Bases.{HasLandedOn, IsLanded, is_met}
 use Rattle.ed_landing.specs.Landings.{Going, HaveArrived, HaveLanded, IsFirstLong, SoFar, StandOn, landing_fault, len_left}
 use Rattle.ed_landing.proofs.LandMore.{lands_too, passed_by, text_held, versions_held}
+use Rattle.ed_sending.specs.LandedBelow.{is_reached, reached_below}
 
 -- ---- lists
 
@@ -91,15 +92,11 @@ module _ (hooks : HookTable) (hs : List Held) (graph : List (List ℕ)) (on : St
   same_stock : stock hs' ≡ stock hs
   same_stock = ap stock_of so_far.same
 
-  buffer_is : buffer s k ≡ seen h
+  buffer_is : buffer s k ≡ (known h).buffer
   buffer_is = ap (λ z. buffer z k) (sym same_stock) ∙ held_buffer hs' k h held
 
-  seen_known : (x : Held) → (known x).buffer ≡ seen x
-  seen_known (Held.Base x) = refl
-  seen_known (Held.Projection p turns) = refl
-
   carrier_is : is_carrier (last_of (known h).buffer) ≡ is_carrier (record_now s k)
-  carrier_is = ap (λ x. is_carrier (last_of x)) (seen_known h ∙ sym buffer_is)
+  carrier_is = ap (λ x. is_carrier (last_of x)) (sym buffer_is)
 
   pub met_is : is_met h box ≡ is_reached s pending k
   met_is = ap (λ t. not t && not (nat_eq (length box) 0)) carrier_is ∙ by (is_carrier (record_now s k)) refl
@@ -157,7 +154,7 @@ module _ (hooks : HookTable) (hs : List Held) (graph : List (List ℕ)) (on : St
 
       denied_is : denied_at hooks s pending k ≡ first_denied hooks x.regions.regions (chain.now x.chain.versions) (changes_left box (chain.text_now x.chain.versions)).changes
       denied_is =
-          ap (λ (y : Buffer). first_denied hooks y.regions (now s k) (base_changes s pending k).changes) (buffer_is ∙ ap seen base_is)
+          ap (λ (y : Buffer). first_denied hooks y.regions (now s k) (base_changes s pending k).changes) (buffer_is ∙ ap (λ (x : Held). (known x).buffer) base_is)
           ∙ ap (λ n. first_denied hooks x.regions.regions n (base_changes s pending k).changes) now_is
           ∙ ap (λ (c : ChangeList). first_denied hooks x.regions.regions (chain.now x.chain.versions) c.changes) changes_are
 
@@ -181,7 +178,7 @@ module _ (hooks : HookTable) (hs : List Held) (graph : List (List ℕ)) (on : St
       left = changes_left (slice_index_or boxes k []) (chain.text_now x.chain.versions)
 
       module _ (hs'' : List Held) (ms' : List Move) (same' : map known hs'' ≡ map known hs') where
-        pub lands_on : HasLandedAmong hooks hs' hs'' ms ms' k (Held.Base x) box (Ok tt) → SoFar hooks hs graph pending (k + 1) hs'' ms' long
+        pub lands_on : HasLandedOn hooks hs' hs'' ms ms' k x box (Ok tt) → SoFar hooks hs graph pending (k + 1) hs'' ms' long
         lands_on landed = record {
           same = same' ∙ so_far.same;
           allowed = allowed_more hooks s pending k is (denied_is ∙ no_denial (first_denied hooks x.regions.regions (chain.now x.chain.versions) left.changes) (too_long left) landed.0) so_far.allowed;
@@ -208,7 +205,7 @@ module _ (hooks : HookTable) (hs : List Held) (graph : List (List ℕ)) (on : St
           | inr f ↦ absurd (let e : too_long left ≡ None = rw f refl in let g : None ≡ Some (BaseFault.Units n) = sym e ∙ h in cc)
         ]
 
-        pub long_on : (n : ℕ) → HasLandedAmong hooks hs' hs'' ms ms' k (Held.Base x) box (Err (BaseFault.Units n)) → SoFar hooks hs graph pending (k + 1) hs'' ms' (Some (unwrap_or long n))
+        pub long_on : (n : ℕ) → HasLandedOn hooks hs' hs'' ms ms' k x box (Err (BaseFault.Units n)) → SoFar hooks hs graph pending (k + 1) hs'' ms' (Some (unwrap_or long n))
         long_on n (inl memory) = absurd (cc)
         long_on n (inr fault) =
             let u : (first_denied hooks x.regions.regions (chain.now x.chain.versions) left.changes ≡ None) × (n ≡ new_len left) × (2 ^ 22 < new_len left) = units_of (first_denied hooks x.regions.regions (chain.now x.chain.versions) left.changes) n fault.0 in
@@ -242,7 +239,7 @@ module _ (hooks : HookTable) (hs : List Held) (graph : List (List ℕ)) (on : St
           by true h = absurd (cc)
           by false h = absurd (cc)
 
-      pub denied_on : (hs'' : List Held) (ms' : List Move) (region : ℕ) → HasLandedAmong hooks hs' hs'' ms ms' k (Held.Base x) box (Err (BaseFault.ReadOnly region)) → Refuses {X = Unit {0}} (landing_fault hooks s pending) (Err (PlanFault.Refused (Refusal.ReadOnly k region)))
+      pub denied_on : (hs'' : List Held) (ms' : List Move) (region : ℕ) → HasLandedOn hooks hs' hs'' ms ms' k x box (Err (BaseFault.ReadOnly region)) → Refuses {X = Unit {0}} (landing_fault hooks s pending) (Err (PlanFault.Refused (Refusal.ReadOnly k region)))
       denied_on hs'' ms' region (inl memory) = absurd (cc)
       denied_on hs'' ms' region (inr fault) =
           let d : first_denied hooks x.regions.regions (chain.now x.chain.versions) left.changes ≡ Some region = region_of (first_denied hooks x.regions.regions (chain.now x.chain.versions) left.changes) (too_long left) region (never left) fault.0 in

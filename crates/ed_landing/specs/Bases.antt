@@ -33,10 +33,12 @@ pub record IsLanded (hs hs' : List Held) (ms ms' : List Move) (b : ℕ) (x : Bas
   pub by : IsNextBy x ps next
 
 -- what an answer says: the move is planned, or the base's own fault is told
+abbrev pub HasLandedOn : HookTable → List Held → List Held → List Move → List Move → ℕ → Base → List Piece → Result (Unit {0}) BaseFault → Type 0
+HasLandedOn hooks hs hs' ms ms' b x ps (Ok r) = (fault_of hooks x (changes_left ps (text_now x.chain.versions)) ≡ None) × IsLanded hs hs' ms ms' b x ps
+HasLandedOn hooks hs hs' ms ms' b x ps (Err e) = (e ≡ BaseFault.OutOfMemory) ⊎ ((fault_of hooks x (changes_left ps (text_now x.chain.versions)) ≡ Some e) × (ms' ≡ ms))
+
 abbrev pub HasLandedAmong : HookTable → List Held → List Held → List Move → List Move → ℕ → Held → List Piece → Result (Unit {0}) BaseFault → Type 0
-HasLandedAmong hooks hs hs' ms ms' b (Held.Base x) ps (Ok r) = (fault_of hooks x (changes_left ps (text_now x.chain.versions)) ≡ None) × IsLanded hs hs' ms ms' b x ps
-HasLandedAmong hooks hs hs' ms ms' b (Held.Base x) ps (Err e) = (e ≡ BaseFault.OutOfMemory) ⊎ ((fault_of hooks x (changes_left ps (text_now x.chain.versions)) ≡ Some e) × (ms' ≡ ms))
-HasLandedAmong hooks hs hs' ms ms' b (Held.Projection p turns) ps r = ⊥
+HasLandedAmong hooks hs hs' ms ms' b h ps r = (x : Base) × (h ≡ Held.Base x) × HasLandedOn hooks hs hs' ms ms' b x ps r
 
 -- what a fault of a base comes to, where a text may be too long already
 abbrev pub after_fault : ℕ → Option ℕ → BaseFault → Result (Option ℕ) PlanFault

@@ -1,9 +1,8 @@
 -- All bases on which pieces land, by number.
-use Rattle.std.specs.Prelude.{◌≡◌, ℕ, ◌+◌, ◌<◌, ◌≤◌, ◌^◌, true, false, List, [], ◌∷◌, length, map, slice_index_or, Result, Ok, Err, Option, MatchOption, Some, None}
+use Rattle.std.specs.Prelude.{◌≡◌, ℕ, ◌<◌, ◌≤◌, ◌^◌, true, false, List, [], ◌∷◌, length, map, slice_index_or, Result, Ok, Err, Option, MatchOption, None}
 use Rattle.std.specs.List.{AllByRecursion as Each}
 use Rattle.ed_base.specs.declared.Piece.{Piece}
 use Rattle.ed_base.specs.declared.refusal.Refusal.{Refusal}
-use Rattle.ed_base.specs.declared.refusal.Which.{Which}
 use Rattle.ed_base.specs.Hooks.{HookTable}
 use Rattle.ed_base.specs.Numbers.{first_some, is_among}
 use Rattle.ed_buffer.specs.Planning.{AreInside, put_in}
@@ -22,7 +21,7 @@ use Rattle.ed_held.specs.Seen.{known, stock}
 use Rattle.ed_climb.specs.Refusals.{Refuses}
 use Rattle.ed_climb.specs.Route.{AreTrue, IsNewest}
 use Rattle.ed_climb.specs.declared.fault.PlanFault.{PlanFault}
-use Rattle.ed_sending.proofs.Groups.LandedBases.{is_reached, landed_below, reached_below}
+use Rattle.ed_sending.specs.LandedBelow.{is_reached, landed_below, reached_below}
 
 -- what stands beside the buffers: their texts are true, and the graph is theirs
 pub record StandOn (hs : List Held) (graph : List (List ℕ)) : Type 0 where

@@ -65,6 +65,5 @@ pub fn begun(
         moves,
         steps,
         turned: None,
-        members: None,
     })
 }

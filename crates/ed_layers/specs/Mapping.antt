@@ -33,7 +33,7 @@ module _ (record_at : ℕ → ℕ → Option Record) where
   lower_version top v b = version_in (vector record_at top v) b
 
   -- the length of that version
-  abbrev lower_len : ℕ → ℕ → ℕ → ℕ
+  abbrev pub lower_len : ℕ → ℕ → ℕ → ℕ
   lower_len top v b = option_map_or (λ w. length (cells record_at b w)) (lower_version top v b) 0
 
   -- the places of the target that the cells of a span have

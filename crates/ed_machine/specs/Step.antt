@@ -31,5 +31,6 @@ within_limits s o = or_refused s (limit_fault o.state) o
 abbrev pub told : HookTable → State → Command → Outcome
 told hooks s command = or_refused s (refusal hooks s command) (within_limits s (weighed (accepted hooks s command)))
 
-unfoldable pub step : HookTable → State → Event → Outcome
-step hooks s (Event.Told command) = told hooks s command
+-- The seat that an event comes from is one of those that work on the graph.
+unfoldable pub step : HookTable → State → ℕ → Event → Outcome
+step hooks s seat (Event.Told command) = told hooks s command

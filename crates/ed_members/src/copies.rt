@@ -1,19 +1,18 @@
-//! Copies of members.
+//! Copies of members, which share the units of literals.
 ghost use Rattle.std.specs.Prelude.{◌≡◌, ◌++◌, IfOk, OnOk};
 
-use ed_base::{Member, OutOfMemory, Units};
-use std::alloc::Global;
+use ed_base::{Member, OutOfMemory};
 
-/// A copy of the member. A literal's units are copied.
-pub fn copied(alloc: Global, member: &Member) -> Result<Member, OutOfMemory>
+/// A copy of the member. A literal's units are shared.
+///
+/// # Errors
+///
+/// A further holder was refused, which counts as want of memory.
+pub fn copied(member: &Member) -> Result<Member, OutOfMemory>
     ensures { IfOk result (λ m. m ≡ member.now) }
 {
     match member {
-        Member::Literal(units) => {
-            let mut copy = Units::new(alloc);
-            copy.extend(units.as_slice())?;
-            Ok(Member::Literal(copy))
-        }
+        Member::Literal(units) => Ok(Member::Literal(units.share()?)),
         Member::Tracked {
             source,
             bounds,
@@ -31,15 +30,11 @@ pub fn copied(alloc: Global, member: &Member) -> Result<Member, OutOfMemory>
 /// # Errors
 ///
 /// Memory was refused.
-pub fn put_copies(
-    alloc: Global,
-    list: &mut Vec<Member>,
-    members: &[Member],
-) -> Result<(), OutOfMemory>
+pub fn put_copies(list: &mut Vec<Member>, members: &[Member]) -> Result<(), OutOfMemory>
     ensures { OnOk result (list.new.items ≡ list.old.items ++ members.now) }
 {
     for member in members {
-        list.push(copied(alloc, member)?)?;
+        list.push(copied(member)?)?;
     }
     Ok(())
 }

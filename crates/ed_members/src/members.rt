@@ -107,8 +107,8 @@ impl Members {
         Ok(Members::kept(alloc, list, order)?)
     }
 
-    /// These members, but with those of this list in place of `count` members from `first` on. What
-    /// stays is copied, a literal with its units.
+    /// These members, but with those of this list in place of `count` members from `first` on. The
+    /// units of a literal that stays are shared.
     ///
     /// # Errors
     ///
@@ -163,7 +163,7 @@ impl Members {
     }
 
     /// The list of these members, but with those of the given list in place of `count` members from
-    /// `first` on. What stays is copied, a literal with its units.
+    /// `first` on. The units of a literal that stays are shared.
     ///
     /// # Errors
     ///
@@ -182,9 +182,9 @@ impl Members {
         let end = first + count;
         let mut added = list;
         let mut joined = Vec::new(alloc);
-        put_copies(alloc, &mut joined, &members[..first as usize])?;
+        put_copies(&mut joined, &members[..first as usize])?;
         joined.append(&mut added)?;
-        put_copies(alloc, &mut joined, &members[end as usize..])?;
+        put_copies(&mut joined, &members[end as usize..])?;
         Ok(joined)
     }
 

@@ -51,9 +51,8 @@ fn new_bounds(
     }
 }
 
-/// The member after the step with this index. A literal's units are copied.
+/// The member after the step with this index. A literal's units are shared.
 fn moved(
-    alloc: Global,
     member: &Member,
     steps: &[SourceStep],
     index: Option<usize>,
@@ -65,7 +64,7 @@ fn moved(
     ensures { IfOk result (λ m. m ≡ moved_by (steps_seen steps.now) held next member.now) }
 {
     match member {
-        Member::Literal(_) => copied(alloc, member),
+        Member::Literal(_) => copied(member),
         Member::Tracked {
             source,
             bounds,
@@ -107,14 +106,7 @@ pub fn moved_members(
     let mut list = Vec::new(alloc);
     for index in 0..members.len() {
         let member = &members[index];
-        list.push(moved(
-            alloc,
-            member,
-            steps,
-            indices[index],
-            held[index],
-            nexts[index],
-        )?)?;
+        list.push(moved(member, steps, indices[index], held[index], nexts[index])?)?;
     }
     Ok(list)
 }

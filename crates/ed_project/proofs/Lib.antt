@@ -5,6 +5,6 @@ pub mod SourceRuns
 pub mod Placing
 pub mod Origins
 pub mod Whole
-pub mod Long
+pub mod Literals
 pub mod Walking
 pub mod Nexts

@@ -1,8 +1,9 @@
 -- Projection buffers as contracts see them.
-use Rattle.std.specs.Prelude.{◌≡◌, ℕ, ◌-◌, List, [], ◌∷◌, length, slice_get, Option, unwrap_or}
+use Rattle.std.specs.Prelude.{◌≡◌, ℕ, ◌-◌, List, [], length, slice_get, slice_range, Option, Some, unwrap_or}
 use Rattle.ed_base.specs.declared.piece.Member.{Member}
-use Rattle.ed_base.specs.ChangeList.{ChangeList, new_len}
-use Rattle.ed_layers.specs.Records.{Record, projection, members_len}
+use Rattle.ed_base.specs.ChangeList.{ChangeList}
+use Rattle.ed_base.specs.Spans.{end_of}
+use Rattle.ed_layers.specs.Records.{Record, projection, members_len, placement}
 use Rattle.ed_version.specs.declared.snapshot.Snapshot.{Snapshot}
 use Rattle.ed_project.specs.declared.shown.Shown.{Shown}
 
@@ -39,13 +40,14 @@ shown_now p = version_at p.versions (now p.versions)
 abbrev pub record_of : Shown → Record
 record_of s = projection s.members s.sources
 
--- the lengths of the texts follow from the change lists
-abbrev pub AreLong : List Shown → List ChangeList → Type 0
-AreLong [] changes = ⊥
-AreLong (s ∷ []) [] = length s.text ≡ members_len s.members
-AreLong (s ∷ []) (c ∷ cs) = ⊥
-AreLong (s ∷ t ∷ ss) [] = ⊥
-AreLong (s ∷ t ∷ ss) (c ∷ cs) = (length s.text ≡ members_len s.members) × (c.old_len ≡ length s.text) × (new_len c ≡ length t.text) × AreLong (t ∷ ss) cs
+-- a literal's units stand in the text where the literal lies
+abbrev pub HasLiterals : List Member → List ℕ → Type 0
+HasLiterals members text = (i : ℕ) (units : List ℕ) → slice_get members i ≡ Some (Member.Literal units) → slice_range text (placement members i).start (end_of (placement members i)) ≡ units
+
+-- what a version shows: the text has as many units as the members, and those of the literals in their places
+pub record IsShown (s : Shown) : Type 0 where
+  pub long : length s.text ≡ members_len s.members
+  pub literals : HasLiterals s.members s.text
 
 -- the same but for room
 pub record IsUnchanged (old new : Projection) : Type 0 where

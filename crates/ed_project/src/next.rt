@@ -16,11 +16,13 @@ pub struct NextRecord {
 }
 
 impl Model for NextRecord {
-    ghost use Rattle.ed_project.specs.Records.{Next};
+    ghost use Rattle.ed_project.specs.Records.{Next, HasLiterals};
 
     ghost Value = { Next };
 
     ghost view = { λ n. record { members = n.members; sources = n.sources; changes = n.changes; snapshot = n.snapshot } };
+
+    ghost invariant = { λ n. HasLiterals n.members n.snapshot.text };
 }
 
 impl NextRecord {

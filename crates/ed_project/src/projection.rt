@@ -9,17 +9,17 @@ ghost use Rattle.ed_members.specs.Moving.{EndsInOld, OwnInside, OwnInOrder};
 ghost use Rattle.ed_members.specs.Steps.{steps_seen};
 ghost use Rattle.ed_track.specs.Linked.{AreLinked, len_before, len_after};
 ghost use Rattle.ed_project.specs.Planning.{Answers, EndsWithin, IsPlanned, IsStep, added_in, too_long};
-ghost use Rattle.ed_project.specs.Records.{IsUnchanged, now, shown, shown_now, version_at};
+ghost use Rattle.ed_project.specs.Records.{IsShown, IsUnchanged, now, shown, shown_now, version_at};
 ghost use Rattle.ed_project.specs.Texts.{HasSource, no_steps, text_in, text_over, versions_of};
 
 use crate::fault::ProjectionFault;
 use crate::next::NextRecord;
 use crate::shown::{Shown, advanced, respanned};
-use crate::texts::{text_of, versions_of};
+use crate::texts::{Staying, text_of, versions_of};
 use ed_base::{BufferNo, Changes, Name, OutOfMemory, Steps, VersionList, VersionNo};
 use ed_members::{Members, SourceStep};
 use ed_text::{DocText, Text};
-use ed_version::Snapshot;
+use ed_version::{Snapshot, Versions};
 use std::alloc::Global;
 use std::marker::Model;
 use std::sync::ledger::Ledger;
@@ -29,36 +29,25 @@ use std::sync::ledger::Ledger;
 /// and then committed, which can't.
 #[derive(Drop)]
 pub struct Projection {
-    buffer: BufferNo,
-    versions: Vec<Shown>,
-    changes: Vec<Changes>,
+    kept: Versions<Shown>,
     resolver: Option<Name>,
 }
 
 impl Model for Projection {
-    ghost use Rattle.std.specs.Prelude.{◌-◌, ◌<◌, ◌^◌, length, min, vec_len, vec_capacity};
-    ghost use Rattle.ed_project.specs.Records.{Projection as Kept, AreLong};
+    ghost use Rattle.std.specs.Prelude.{All};
+    ghost use Rattle.ed_project.specs.Records.{Projection as Kept, IsShown};
 
     ghost Value = { Kept };
 
     ghost view = { λ p. record {
-      buffer = p.buffer;
-      versions = p.versions.items;
-      changes = p.changes.items;
+      buffer = p.kept.buffer;
+      versions = p.kept.versions;
+      changes = p.kept.changes;
       resolver = p.resolver;
-      spare = min (vec_capacity p.versions - vec_len p.versions) (vec_capacity p.changes - vec_len p.changes);
+      spare = p.kept.spare;
     } };
 
-    ghost invariant = { λ p. AreLong p.versions.items p.changes.items × (length p.versions.items < 2 ^ 32) };
-}
-
-/// The change lists with these indices.
-fn part(changes: &[Changes], from: usize, to: usize) -> &[Changes]
-    requires order { from ≤ to }
-    requires there { to ≤ length changes.now }
-    ensures { result.now ≡ slice_range changes.now from to }
-{
-    &changes[from..to]
+    ghost invariant = { λ p. All IsShown p.kept.versions };
 }
 
 impl Projection {
@@ -82,19 +71,15 @@ impl Projection {
         ensures changes { IfOk result (λ p. p.changes ≡ []) }
         ensures resolver { IfOk result (λ p. p.resolver ≡ resolver) }
     {
-        let text = text_of(alloc, &members, sources)?;
+        let text = text_of(alloc, &members, sources, None, Staying::all())?;
         let sources = versions_of(alloc, sources)?;
         let shown = Shown {
             members,
             sources,
             text,
         };
-        let mut versions = Vec::new(alloc);
-        versions.push(shown)?;
         Ok(Projection {
-            buffer: me,
-            versions,
-            changes: Vec::new(alloc),
+            kept: Versions::new(alloc, me, shown)?,
             resolver,
         })
     }
@@ -128,7 +113,7 @@ impl Projection {
         ensures within { EndsWithin (steps_seen steps.now) (members_after self.old.buffer (steps_seen steps.now) (shown_now self.old).members) result }
         ensures planned { IfOk result (λ n. IsPlanned self.new n) }
     {
-        let (shown, changes) = advanced(alloc, self.newest(), self.buffer, sources, steps)?;
+        let (shown, changes) = advanced(alloc, self.newest(), self.buffer(), sources, steps)?;
         let next = self.planned(shown, changes)?;
         Ok(next)
     }
@@ -168,9 +153,9 @@ impl Projection {
     /// What the current version shows.
     fn newest(&self) -> &Shown
         ensures shown { result.now ≡ shown_now self.now }
-        ensures len { length result.now.text ≡ members_len result.now.members }
+        ensures whole { IsShown result.now }
     {
-        &self.versions[self.versions.len() - 1]
+        self.kept.get(self.kept.now())
     }
 
     /// Makes room for the version that comes next, and puts together what a commit will add.
@@ -182,7 +167,7 @@ impl Projection {
         requires number { length self.old.versions < 2 ^ 32 - 1 }
         requires from { changes.old_len ≡ length (shown_now self.old).text }
         requires to { new_len changes ≡ length shown.text }
-        requires long { length shown.text ≡ members_len shown.members }
+        requires whole { IsShown shown }
         ensures same { IsUnchanged self.old self.new }
         ensures members { IfOk result (λ n. n.members ≡ shown.members) }
         ensures sources { IfOk result (λ n. n.sources ≡ shown.sources) }
@@ -190,16 +175,15 @@ impl Projection {
         ensures changes { IfOk result (λ n. n.changes ≡ changes) }
         ensures planned { IfOk result (λ n. IsPlanned self.new n) }
     {
-        self.versions.reserve(1)?;
-        self.changes.reserve(1)?;
+        self.kept.reserve()?;
         let Shown {
             members,
             sources,
             text,
         } = shown;
         let snapshot = Snapshot {
-            buffer: self.buffer,
-            version: VersionNo(self.versions.len() as u32),
+            buffer: self.kept.buffer(),
+            version: VersionNo(self.kept.now().0 + 1),
             text,
         };
         Ok(NextRecord {
@@ -225,12 +209,12 @@ impl Projection {
             changes,
             snapshot,
         } = next;
-        self.versions.push_reserved(Shown {
+        let shown = Shown {
             members,
             sources,
             text: snapshot.text,
-        });
-        self.changes.push_reserved(changes);
+        };
+        self.kept.push(shown, changes);
         snapshot.version
     }
 
@@ -241,21 +225,21 @@ impl Projection {
         ensures few { length self.now.versions < 2 ^ 32 }
         ensures steps { length self.now.versions ≡ length self.now.changes + 1 }
     {
-        VersionNo((self.versions.len() - 1) as u32)
+        self.kept.now()
     }
 
     /// The buffer that the projection is.
     pub fn buffer(&self) -> BufferNo
         ensures { result ≡ self.now.buffer }
     {
-        self.buffer
+        self.kept.buffer()
     }
 
     /// Whether no further version can have a number.
     pub fn is_full(&self) -> bool
         ensures full { IsTrue result ↔ (2 ^ 32 - 1 ≤ length self.now.versions) }
     {
-        self.versions.len() >= u32::MAX as usize
+        self.kept.is_full()
     }
 
     /// The members of a version that is there.
@@ -263,8 +247,7 @@ impl Projection {
         requires { version < length self.now.versions }
         ensures { result.now ≡ (version_at self.now.versions version).members }
     {
-        let found = &self.versions[version.0 as usize];
-        &found.members
+        &self.kept.get(version).members
     }
 
     /// The version of each source that a version names.
@@ -272,8 +255,7 @@ impl Projection {
         requires { version < length self.now.versions }
         ensures { result.now ≡ (version_at self.now.versions version).sources }
     {
-        let found = &self.versions[version.0 as usize];
-        &found.sources
+        &self.kept.get(version).sources
     }
 
     /// The text of a version that is there.
@@ -282,8 +264,7 @@ impl Projection {
         ensures text { result.now ≡ (version_at self.now.versions version).text }
         ensures len { length result.now ≡ members_len (version_at self.now.versions version).members }
     {
-        let found = &self.versions[version.0 as usize];
-        &found.text
+        &self.kept.get(version).text
     }
 
     /// The snapshot of a version that is there.
@@ -295,11 +276,7 @@ impl Projection {
         requires { version < length self.now.versions }
         ensures { IfOk result (λ s. s ≡ record { buffer = self.now.buffer; version = version; text = (version_at self.now.versions version).text }) }
     {
-        Ok(Snapshot {
-            buffer: self.buffer,
-            version,
-            text: self.text(version).share()?,
-        })
+        self.kept.snapshot(version)
     }
 
     /// The change lists that lead from one version to another that isn't older.
@@ -311,7 +288,7 @@ impl Projection {
         ensures before { (p : ℕ) → p ≤ length (version_at self.now.versions from).text → p ≤ len_before p result.now }
         ensures after { (p : ℕ) → p ≤ length (version_at self.now.versions to).text → p ≤ len_after p result.now }
     {
-        self.between(from.0, to.0)
+        self.kept.changes_between(from, to)
     }
 
     /// The change list that leads from a version, which isn't the current one, to the next.
@@ -319,25 +296,7 @@ impl Projection {
         requires { version + 1 < length self.now.versions }
         ensures { slice_get self.now.changes version ≡ Some result.now }
     {
-        self.step(version.0)
-    }
-
-    fn between(&self, from: u32, to: u32) -> &[Changes]
-        requires order { from ≤ to }
-        requires there { to < length self.now.versions }
-        ensures changes { result.now ≡ slice_range self.now.changes from to }
-        ensures linked { AreLinked result.now }
-        ensures before { (p : ℕ) → p ≤ length (version_at self.now.versions from).text → p ≤ len_before p result.now }
-        ensures after { (p : ℕ) → p ≤ length (version_at self.now.versions to).text → p ≤ len_after p result.now }
-    {
-        part(self.changes.as_slice(), from as usize, to as usize)
-    }
-
-    fn step(&self, from: u32) -> &Changes
-        requires { from + 1 < length self.now.versions }
-        ensures { slice_get self.now.changes from ≡ Some result.now }
-    {
-        &self.changes[from as usize]
+        self.kept.changes_from(version)
     }
 
     /// The name of the hook that divides what is put in among several members, if there is one.

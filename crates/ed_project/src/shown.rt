@@ -8,16 +8,17 @@ ghost use Rattle.ed_members.specs.Faults.{replaced};
 ghost use Rattle.ed_members.specs.Moving.{EndsInOld, OwnInside, OwnInOrder};
 ghost use Rattle.ed_members.specs.Steps.{steps_seen};
 ghost use Rattle.ed_project.specs.Planning.{Answers, EndsWithin, IsNext, added_in, too_long};
+ghost use Rattle.ed_project.specs.Records.{IsShown};
 ghost use Rattle.ed_project.specs.Texts.{HasSource, no_steps, text_in, text_over, versions_of};
 
 use crate::fault::ProjectionFault;
 use crate::gaps::changes_between;
 use crate::runs::{kept_runs, runs_around};
-use crate::texts::{text_of, versions_of};
+use crate::texts::{Staying, text_of, versions_of};
 use ed_base::{BufferNo, Changes, OutOfMemory, VersionList};
 use ed_members::{Members, SourceStep};
 use ed_text::{DocText, MOST_UNITS, Text};
-use ed_version::Snapshot;
+use ed_version::{HasText, Snapshot};
 use std::alloc::Global;
 
 /// What a projection shows at one version: its members, the version of each source, and the text that
@@ -27,6 +28,16 @@ pub struct Shown {
     pub members: Members,
     pub sources: VersionList,
     pub text: DocText,
+}
+
+impl HasText for Shown {
+    ghost units = { λ s. s.text };
+
+    fn text(&self) -> &DocText
+        ensures { result.now ≡ self.now.text }
+    {
+        &self.text
+    }
 }
 
 /// What is shown after these steps of the sources, and what leads to it.
@@ -45,11 +56,12 @@ pub fn advanced(
     requires inside { OwnInside me (steps_seen steps.now) old.now.members }
     requires order { OwnInOrder me (steps_seen steps.now) old.now.members }
     requires there { All (HasSource (steps_seen steps.now) sources.now) old.now.members }
-    requires long { length old.now.text ≡ members_len old.now.members }
+    requires whole { IsShown old.now }
     ensures fault { Answers (too_long (members_len (members_after me (steps_seen steps.now) old.now.members))) result }
     ensures members { IfOk result (λ r. r.0.members ≡ members_after me (steps_seen steps.now) old.now.members) }
     ensures sources { IfOk result (λ r. r.0.sources ≡ versions_of sources.now) }
     ensures text { IfOk result (λ r. r.0.text ≡ text_over (text_in sources.now) r.0.members) }
+    ensures whole { IfOk result (λ r. IsShown r.0) }
     ensures next { IfOk result (λ r. IsNext all_stay (steps_seen steps.now) old.now r.0 r.1) }
     ensures within { EndsWithin (steps_seen steps.now) (members_after me (steps_seen steps.now) old.now.members) result }
 {
@@ -60,7 +72,7 @@ pub fn advanced(
             count: u64::from(members.len()),
         });
     }
-    let text = text_of(alloc, &members, sources)?;
+    let text = text_of(alloc, &members, sources, Some(old), Staying::all())?;
     let runs = kept_runs(alloc, &old.members, &members, steps)?;
     let changes = changes_between(alloc, &runs, old_len, &text)?;
     let shown = Shown {
@@ -89,14 +101,20 @@ pub fn respanned(
     requires others { members ≡ replaced old.now.members first removed (added_in first removed old.now.members members) }
     requires there { All (HasSource no_steps sources.now) members }
     requires fits { members_len members ≤ 2 ^ 22 }
-    requires long { length old.now.text ≡ members_len old.now.members }
+    requires whole { IsShown old.now }
     ensures members { IfOk result (λ r. r.0.members ≡ members) }
     ensures sources { IfOk result (λ r. r.0.sources ≡ versions_of sources.now) }
     ensures text { IfOk result (λ r. r.0.text ≡ text_over (text_in sources.now) members) }
+    ensures whole { IfOk result (λ r. IsShown r.0) }
     ensures next { IfOk result (λ r. IsNext (stay_around first removed (length (added_in first removed old.now.members members))) no_steps old.now r.0 r.1) }
 {
-    let text = text_of(alloc, &members, sources)?;
     let behind = old.members.count() - (first + removed);
+    let staying = Staying {
+        first,
+        removed,
+        added: members.count() - (first + behind),
+    };
+    let text = text_of(alloc, &members, sources, Some(old), staying)?;
     let runs = runs_around(&old.members, &members, first, behind);
     let changes = changes_between(alloc, &runs, old.text.len(), &text)?;
     let shown = Shown {

@@ -18,7 +18,7 @@ module _ (hooks : HookTable) where
 
   beginning : (s : State) (xs ys : List Entry) → IsLegalFrom hooks s (xs ++ ys) → IsLegalFrom hooks s xs
   beginning s [] ys legal = tt
-  beginning s (x ∷ xs) ys legal = (legal.0, beginning (step hooks s x.event).state xs ys legal.1)
+  beginning s (x ∷ xs) ys legal = (legal.0, beginning (step hooks s x.seat x.event).state xs ys legal.1)
 
   same : (xs ys : List Entry) → xs ≡ ys → IsLegal hooks ys → IsLegal hooks xs
   same xs ys e legal = let P : List Entry → Type 0 = IsLegal hooks in subst P (sym e) legal

@@ -15,7 +15,7 @@ pub record Obeys (old new : State) : Type 0 where
 -- so along all entries
 abbrev pub AreLawfulFrom : HookTable → State → List Entry → Type 0
 AreLawfulFrom hooks s [] = Unit {0}
-AreLawfulFrom hooks s (e ∷ es) = Obeys s (step hooks s e.event).state × AreLawfulFrom hooks (step hooks s e.event).state es
+AreLawfulFrom hooks s (e ∷ es) = Obeys s (step hooks s e.seat e.event).state × AreLawfulFrom hooks (step hooks s e.seat e.event).state es
 
 abbrev pub AreLawful : HookTable → List Entry → Type 0
 AreLawful hooks entries = AreLawfulFrom hooks empty_state entries

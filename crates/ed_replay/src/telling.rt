@@ -5,12 +5,15 @@ ghost use Rattle.ed_callbacks.specs.HookLists.{hook_table};
 ghost use Rattle.ed_machine.specs.History.{after, alone, told};
 ghost use Rattle.ed_replay.specs.Lawful.{AreLawful, Obeys};
 
-use ed_base::{OutOfMemory, SeatNo};
+use ed_base::{OutOfMemory, SeatNo, SpanList};
 use ed_callbacks::Hooks;
 use ed_core::Core;
 use ed_entry::{Entry, Event};
 use ed_script::Command;
 use std::alloc::Global;
+
+/// The seat of who tells the commands.
+const SESSION: SeatNo = SeatNo(0);
 
 /// A history, and whether it has all that was to be done.
 #[derive(Drop)]
@@ -33,9 +36,9 @@ fn tell(
 {
     entries.reserve(1)?;
     let event = Event::Told(command);
-    let reply = core.step(hooks, &event)?;
+    let reply = core.step(hooks, SESSION, &event, SpanList::empty())?;
     entries.push_reserved(Entry {
-        seat: SeatNo(0),
+        seat: SESSION,
         event,
         reply,
     });

@@ -1,13 +1,14 @@
 pub mod Lists
 pub mod FoundedLemmas
 pub mod Texts
+pub mod Runs
 pub mod Growth
 pub mod Lengths
+pub mod ShownRuns
 pub mod RisingLemmas
 pub mod Settled
 pub mod Order
 pub mod Turns
-pub mod MemberCounts
 pub mod OneLimit
 pub mod Sources
 pub mod Tracked
@@ -17,3 +18,4 @@ pub mod Starts
 pub mod Limits
 pub mod PlainTurns
 pub mod Covering
+pub mod NextRecords

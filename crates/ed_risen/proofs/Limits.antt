@@ -1,25 +1,15 @@
 -- What is so of a stock within its limits.
-use Rattle.std.proofs.Common.{◌≡◌, ℕ, ◌<◌, ◌≤◌, ◌^◌, false, length, map, None, refl, ap, ◌∙◌, subst, le-ltb}
+use Rattle.std.proofs.Common.{◌≡◌, ℕ, ◌<◌, ◌≤◌, ◌^◌, false, length, map, None, ap, ◌∙◌, subst, le-ltb}
 use Rattle.std.specs.Prelude.{nat_lt, option_map}
 use Rattle.std.proofs.lemmas.Bool.{ltb-false}
 use Rattle.ed_base.specs.declared.Refusal.{Refusal}
 use Rattle.ed_base.specs.declared.Which.{Which}
 use Rattle.ed_base.specs.Numbers.{first_some}
-use Rattle.ed_layers.specs.Records.{Record, base, elision, is_elision, projection}
 use Rattle.ed_stock.specs.Limits.{over, some_over, stock_limits}
-use Rattle.ed_stock.specs.Stock.{Stock, count, graph_order, record_now, text_now}
+use Rattle.ed_stock.specs.Stock.{Stock, count, graph_order, text_now}
 use Rattle.ed_risen.specs.Counting.{member_count}
-use Rattle.ed_risen.specs.Rising.{Inside, IsSettled}
 use Rattle.ed_risen.proofs.OneLimit.{all_within, each_none, none_of, none_past}
 use Rattle.ed_risen.proofs.Order.{in_order, of_order}
-
-pub plain_inside : (s : Stock) (r : Record) → Inside s r → is_elision r ≡ false
-plain_inside s (base text reiterated) h = refl
-plain_inside s (projection members sources) h = refl
-plain_inside s (elision flags source version) h = absurd h
-
-pub not_elision : (s : Stock) → IsSettled s → (b : ℕ) → b < count s → is_elision (record_now s b) ≡ false
-not_elision s settled b there = plain_inside s (record_now s b) (settled.inside b there)
 
 pub units_fit : (t : Stock) → ((c : ℕ) → c < count t → length (text_now t c) ≤ 2 ^ 22) → some_over Which.Units (2 ^ 22) (map (λ b. length (text_now t b)) (graph_order t)) ≡ None
 units_fit t fits = ap (option_map (Refusal.Limit Which.Units)) (all_within (2 ^ 22) (λ b. length (text_now t b)) (graph_order t) (λ c i. le-ltb (2 ^ 22) (length (text_now t c)) (fits c (of_order t c i))))

@@ -116,7 +116,7 @@ stand_same s t sources members same h = record {
 pub inside_same : (s t : Stock) (r : Record) → Each (Same s t) (sources_of r) → Inside s r → Inside t r
 inside_same s t (base text reiterated) same h = tt
 inside_same s t (projection members sources) same h = stand_same s t sources members same h
-inside_same s t (elision flags source version) same h = h
+inside_same s t (elision flags source version) same h = (h.0 ∙ sym same.0.at, h.1 ∙ ap length (sym same.0.text))
 
 module _ (s : Stock) (height : ℕ → ℕ) (settled : IsSettled s) (start done : List ℕ) (r : Rising) (rises : Rises s height start done r) where
   pub some_records : (c : ℕ) → c < count s → 0 < length (buffer r.stock c).records
@@ -323,31 +323,44 @@ module _ (s : Stock) (height : ℕ → ℕ) (settled : IsSettled s) (start done 
         ];
       }
 
-    -- a projection, over its sources as they are now
+    -- a carrier, over its sources as they are now
+
+    module _ (next : Record) (names_are : sources_of next ≡ at_now r.stock (sources_of (record_now s b))) (m : SourceStep) (u : Stock) (grows : Grows r.stock u b next) (same_count : count u ≡ count r.stock)
+        (from : m.step.old_len ≡ length (text_now s b)) (to : m.step.new_len ≡ length (text_now u b)) (new_inside : Inside r.stock next) where
+      abbrev named : List (ℕ × ℕ)
+      named = sources_of (record_now s b)
+
+      closed_now : Each (λ v. is_among v.0 done ≡ true) (sources_of next)
+      closed_now = subst (Each (λ v. is_among v.0 done ≡ true)) (sym names_are) (at_now_each r.stock (λ v. is_among v.0 done ≡ true) named closed)
+
+      current_now : Each (IsNow r.stock) (sources_of next)
+      current_now = subst (Each (IsNow r.stock)) (sym names_are) (at_now_each r.stock (IsNow r.stock) named (each_weaker (λ v. is_among v.0 done ≡ true) _ (λ v i. refl) named closed))
+
+      levels_now : Each (Founded (record_at r.stock) (height b)) (sources_of next)
+      levels_now = subst (Each (Founded (record_at r.stock) (height b))) (sym names_are) (at_now_each r.stock (Founded (record_at r.stock) (height b)) named levels)
+
+      names_now : map (λ v. v.0) (sources_of next) ≡ sources_now s b
+      names_now = ap (map (λ v. v.0)) names_are ∙ at_now_names r.stock named
+
+      pub carrier_founded : AreFounded u
+      carrier_founded = founded_to next closed_now current_now levels_now names_now new_inside m u grows same_count from to
+
+      pub carrier_steps : Rises s height start (b ∷ done) (record { stock = u; moves = r.moves ++ (b, m) ∷ [] })
+      carrier_steps = steps_to next closed_now current_now levels_now names_now new_inside m u grows same_count from to
+
+    -- so a projection
 
     module _ (members : List Member) (sources : List (ℕ × ℕ)) (is : record_now s b ≡ projection members sources) (new : List Member) (m : SourceStep) (u : Stock)
         (grows : Grows r.stock u b (projection new (at_now r.stock sources))) (same_count : count u ≡ count r.stock)
         (from : m.step.old_len ≡ length (text_now s b)) (to : m.step.new_len ≡ length (text_now u b)) (new_inside : StandInside r.stock (at_now r.stock sources) new) where
-      closed_here : Each (λ v. is_among v.0 done ≡ true) sources
-      closed_here = subst (λ x. Each (λ v. is_among v.0 done ≡ true) (sources_of x)) is closed
-
-      closed_now : Each (λ v. is_among v.0 done ≡ true) (at_now r.stock sources)
-      closed_now = at_now_each r.stock (λ v. is_among v.0 done ≡ true) sources closed_here
-
-      current_now : Each (IsNow r.stock) (at_now r.stock sources)
-      current_now = at_now_each r.stock (IsNow r.stock) sources (each_weaker (λ v. is_among v.0 done ≡ true) _ (λ v i. refl) sources closed_here)
-
-      levels_now : Each (Founded (record_at r.stock) (height b)) (at_now r.stock sources)
-      levels_now = at_now_each r.stock (Founded (record_at r.stock) (height b)) sources (subst (λ x. Each (λ v. Founded (record_at r.stock) (height b) (v.0, now r.stock v.0)) (sources_of x)) is levels)
-
-      names_now : map (λ v. v.0) (at_now r.stock sources) ≡ sources_now s b
-      names_now = at_now_names r.stock sources ∙ ap (λ x. map (λ v. v.0) (sources_of x)) (sym is)
+      names_of : at_now r.stock sources ≡ at_now r.stock (sources_of (record_now s b))
+      names_of = ap (λ x. at_now r.stock (sources_of x)) (sym is)
 
       pub founded_here : AreFounded u
-      founded_here = founded_to (projection new (at_now r.stock sources)) closed_now current_now levels_now names_now new_inside m u grows same_count from to
+      founded_here = carrier_founded (projection new (at_now r.stock sources)) names_of m u grows same_count from to new_inside
 
       pub steps : Rises s height start (b ∷ done) (record { stock = u; moves = r.moves ++ (b, m) ∷ [] })
-      steps = steps_to (projection new (at_now r.stock sources)) closed_now current_now levels_now names_now new_inside m u grows same_count from to
+      steps = carrier_steps (projection new (at_now r.stock sources)) names_of m u grows same_count from to new_inside
 
   -- a base, which stands on no buffer
 

@@ -14,10 +14,9 @@ use Rattle.ed_stock.specs.Versions.{Rising, is_moved, none_given, risen, risen_a
 use Rattle.ed_risen.specs.Growing.{AreFounded}
 use Rattle.ed_risen.specs.Start.{IsStart}
 use Rattle.ed_risen.proofs.Lists.{among_behind, among_front, among_itself, among_split, clash, each_among, each_of, fold_append, index_list}
-use Rattle.ed_risen.proofs.MemberCounts.{most_all}
 use Rattle.ed_risen.proofs.OneLimit.{first_long}
 use Rattle.ed_risen.proofs.Order.{Comes, order_all, order_comes}
-use Rattle.ed_risen.proofs.Turns.{NamesStay, names_stay, text_stays}
+use Rattle.ed_risen.proofs.Turns.{NamesStay, most_all, names_stay, text_stays}
 
 module _ (s : Stock) (g : List (List ℕ)) (first : Rising) (start : IsStart s g first) where
   abbrev final : Rising

@@ -1,12 +1,12 @@
 -- The text of a version that is there, by the texts of the versions that it names.
-use Rattle.std.proofs.Common.{◌≡◌, ℕ, zero, suc, ◌+◌, ◌-◌, List, [], ◌∷◌, ◌++◌, map, take, drop, Option, Some, None, refl, sym, ◌∙◌, ap, arith}
+use Rattle.std.proofs.Common.{◌≡◌, ℕ, zero, suc, ◌+◌, ◌-◌, true, List, [], ◌∷◌, ◌++◌, map, take, drop, Option, Some, None, refl, sym, ◌∙◌, ap, arith}
 use Rattle.std.specs.Prelude.{flat_map, slice_range}
 use Rattle.std.specs.Option.{option_map_or}
 use Rattle.std.specs.List.{AllByRecursion as Each, enumerate_from}
 use Rattle.std.proofs.lemmas.List.{map-append}
 use Rattle.ed_base.specs.declared.Member.{Member}
 use Rattle.ed_base.specs.Spans.{end_of}
-use Rattle.ed_layers.specs.Records.{Record, base, projection, sources_of, version_in}
+use Rattle.ed_layers.specs.Records.{Record, base, elision, is_carrier, members_of, projection, sources_of, version_in}
 use Rattle.ed_layers.specs.Cells.{Cell, at_place, plain_cell, through_member, member_cells, record_cells, cells_within, text}
 use Rattle.ed_risen.specs.Founded.{Founded, Extends}
 use Rattle.ed_layers.specs.Texts.{member_text, text_over}
@@ -55,10 +55,14 @@ module _ (source_cells : ℕ → List Cell) (b : ℕ) where
       ∙ ap (λ xs. xs ++ units_of (flat_map (member_cells source_cells b) (enumerate_from (i + 1) ms))) (units_member i m)
       ∙ ap (λ xs. member_text source_units m ++ xs) (units_members (i + 1) ms)
 
-  units_projection : (ms : List Member) (sources : List (ℕ × ℕ)) → units_of (record_cells source_cells b (projection ms sources)) ≡ text_over source_units ms
-  units_projection ms sources = units_placed b 0 (flat_map (member_cells source_cells b) (enumerate_from 0 ms)) ∙ units_members 0 ms
+  pub units_carrier : (r : Record) → is_carrier r ≡ true → units_of (record_cells source_cells b r) ≡ text_over source_units (members_of r)
+  units_carrier (base us reiterated) carries = absurd (cc)
+  units_carrier (projection ms sources) carries = units_placed b 0 (flat_map (member_cells source_cells b) (enumerate_from 0 ms)) ∙ units_members 0 ms
+  units_carrier (elision flags source version) carries =
+      let ms : List Member = members_of (elision flags source version) in
+      units_placed b 0 (flat_map (member_cells source_cells b) (enumerate_from 0 ms)) ∙ units_members 0 ms
 
-  units_base : (us : List ℕ) (r : ℕ) → units_of (record_cells source_cells b (base us r)) ≡ us
+  pub units_base : (us : List ℕ) (r : ℕ) → units_of (record_cells source_cells b (base us r)) ≡ us
   units_base us r = units_placed b 0 (map plain_cell us) ∙ units_plain us
 
 module _ (at : ℕ → ℕ → Option Record) where
@@ -75,11 +79,15 @@ module _ (at : ℕ → ℕ → Option Record) where
   unfolding cells_within
   one_level n b v r is = rw is refl
 
+  -- the text of a carrier is what its members show of the texts of its sources
+  pub carrier_text : (b v : ℕ) (r : Record) → is_carrier r ≡ true → at b v ≡ Some r → Each (Founded at 8) (sources_of r) → text at b v ≡ text_over (named_text (sources_of r)) (members_of r)
+  carrier_text b v r carries is h =
+      ap units_of (one_level 8 b v r is)
+      ∙ units_carrier (λ source. option_map_or (cells_within at 8 source) (version_in (sources_of r) source) []) b r carries
+      ∙ ap (λ f. text_over f (members_of r)) (λ i source. found_units (sources_of r) h source (version_in (sources_of r) source) refl i)
+
   pub projection_text : (b v : ℕ) (ms : List Member) (sources : List (ℕ × ℕ)) → at b v ≡ Some (projection ms sources) → Each (Founded at 8) sources → text at b v ≡ text_over (named_text sources) ms
-  projection_text b v ms sources is h =
-      ap units_of (one_level 8 b v (projection ms sources) is)
-      ∙ units_projection (λ source. option_map_or (cells_within at 8 source) (version_in sources source) []) b ms sources
-      ∙ ap (λ f. text_over f ms) (λ i source. found_units sources h source (version_in sources source) refl i)
+  projection_text b v ms sources is h = carrier_text b v (projection ms sources) refl is h
 
   pub base_text : (b v : ℕ) (us : List ℕ) (r : ℕ) → at b v ≡ Some (base us r) → text at b v ≡ us
   base_text b v us r is = ap units_of (one_level 8 b v (base us r) is) ∙ units_base (λ source. option_map_or (cells_within at 8 source) (version_in [] source) []) b us r

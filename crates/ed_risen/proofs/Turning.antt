@@ -70,7 +70,7 @@ module _ (t : Stock) (b : ℕ) (there : b < count t) where
   inside_then : (x : Record) → Inside t x → Inside v x
   inside_then (base units reiterated) h = tt
   inside_then (projection ms vs) h = stand_then vs ms h
-  inside_then (elision flags source version) h = absurd h
+  inside_then (elision flags source version) h = (h.0 ∙ ap (λ (f : ℕ → ℕ). f source) (sym same_now), h.1 ∙ ap (λ (f : ℕ → List ℕ). length (f source)) (sym same_text))
 
   pub turned_settled : IsSettled t → IsSettled v
   turned_settled h = record {

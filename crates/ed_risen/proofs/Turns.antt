@@ -1,4 +1,4 @@
--- A text that would be too long is the first that is.
+-- What a buffer's turn does, and what stays through many.
 use Rattle.std.proofs.Common.{◌≡◌, ◌≢◌, ℕ, ◌<◌, true, false, List, [], ◌∷◌, map, fold, None, refl, sym, ap, ◌∙◌, subst, inl, inr, length-set}
 use Rattle.std.specs.Prelude.{is_some}
 use Rattle.std.specs.List.{AllByRecursion as Each, list_any}
@@ -125,3 +125,15 @@ text_stays (x ∷ xs) r c all founded alone =
     weaker : (ys : List ℕ) → Each (λ b. b < count r.stock) ys → NamesStay r (risen_at none_given r x) → Each (λ b. b < count (risen_at none_given r x).stock) ys
     weaker [] h n = tt
     weaker (y ∷ ys) h n = (subst (λ k. y < k) (sym n.same_count) h.0, weaker ys h.1 n)
+
+-- the number of buffers that there may be stays
+most_at : (r : Rising) (b : ℕ) → (risen_at none_given r b).stock.most_buffers ≡ r.stock.most_buffers
+unfolding with_record with_version
+most_at r b = elim (cases_Bool (is_moved r b)) [
+  | inl moved ↦ rw moved refl
+  | inr still ↦ rw still refl
+]
+
+pub most_all : (xs : List ℕ) (r : Rising) → (fold (risen_at none_given) r xs).stock.most_buffers ≡ r.stock.most_buffers
+most_all [] r = refl
+most_all (x ∷ xs) r = most_all xs (risen_at none_given r x) ∙ most_at r x

@@ -28,11 +28,11 @@ pub record StandInside (s : Stock) (sources : List (ℕ × ℕ)) (members : List
   pub apart : overlap_fault members ≡ None
   pub cover : mode_fault (λ b. length (text_now s b)) members ≡ None
 
--- the members of a record stand inside their sources; there are no elision buffers
+-- The members of a record stand inside their sources. An elision buffer says of each unit of its source's text whether it is hidden.
 abbrev pub Inside : Stock → Record → Type 0
 Inside s (base text reiterated) = Unit {0}
 Inside s (projection members sources) = StandInside s sources members
-Inside s (elision flags source version) = ⊥
+Inside s (elision flags source version) = (version ≡ now s source) × (length flags ≡ length (text_now s source))
 
 -- A stock between groups.
 pub record IsSettled (s : Stock) : Type 0 where

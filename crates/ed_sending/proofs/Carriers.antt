@@ -9,3 +9,4 @@ pub mod SlotPlaces
 pub mod SlotReadings
 pub mod ProjectionStep
 pub mod ArrivedUnits
+pub mod NothingArrived

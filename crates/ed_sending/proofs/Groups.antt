@@ -7,6 +7,7 @@ pub mod Arrivals
 pub mod Faultless
 pub mod Turns
 pub mod RecordTexts
+pub mod ReadyStocks
 pub mod LandedSteps
 pub mod AcceptedEdit
 pub mod OneWay

@@ -1,1 +1,3 @@
 pub mod OneCarrierEach
+pub mod Ready
+pub mod LandedBelow

@@ -1,12 +1,13 @@
 //! The versions of a buffer, by number.
 ghost use Rattle.std.specs.Prelude.{◌≡◌, ◌↔◌, ◌+◌, ◌-◌, ◌<◌, ◌≤◌, ◌^◌, ◌++◌, ◌∷◌, [], ℕ, length, map, slice_get, slice_range, IsTrue, Some, IfOk, OnOk};
-ghost use Rattle.ed_base.specs.ChangeList.{applied, new_len};
+ghost use Rattle.ed_base.specs.ChangeList.{applied};
 ghost use Rattle.ed_track.specs.Linked.{AreLinked, len_before, len_after};
 ghost use Rattle.ed_version.specs.Chain.{opening, version, text_at, reiterated_at, now, text_now, IsOriginal, MayRepeat, snapshot_of, IsSame};
 
 use crate::snapshot::Snapshot;
+use crate::versions::{HasText, Versions};
 use ed_base::{BufferNo, Changes, NumberList, OutOfMemory, VersionNo};
-use ed_text::{DocText, Text};
+use ed_text::DocText;
 use std::alloc::Global;
 use std::marker::Model;
 
@@ -19,40 +20,38 @@ pub struct Version {
     pub reiterated: VersionNo,
 }
 
+impl HasText for Version {
+    ghost units = { λ v. v.text };
+
+    fn text(&self) -> &DocText
+        ensures { result.now ≡ self.now.text }
+    {
+        &self.text
+    }
+}
+
 /// The versions of one buffer, numbered from 0, after `ITextVersion` of the editor SDK. A chain only
 /// grows at its end: what is there never changes. Its texts and change lists are shared with those
 /// who asked for them.
 #[derive(Drop)]
 pub struct Chain {
-    buffer: BufferNo,
-    versions: Vec<Version>,
-    changes: Vec<Changes>,
+    kept: Versions<Version>,
 }
 
 impl Model for Chain {
-    ghost use Rattle.std.specs.Prelude.{◌-◌, ◌<◌, ◌^◌, length, min, vec_len, vec_capacity};
-    ghost use Rattle.ed_version.specs.Chain.{Chain as Versions, texts, AreRepeating};
+    ghost use Rattle.ed_version.specs.Chain.{Chain as Kept, texts, AreRepeating};
     ghost use Rattle.ed_version.specs.Follows.{Follows};
 
-    ghost Value = { Versions };
+    ghost Value = { Kept };
 
     ghost view = { λ c. record {
-      buffer = c.buffer;
-      versions = c.versions.items;
-      changes = c.changes.items;
-      spare = min (vec_capacity c.versions - vec_len c.versions) (vec_capacity c.changes - vec_len c.changes);
+      buffer = c.kept.buffer;
+      versions = c.kept.versions;
+      changes = c.kept.changes;
+      spare = c.kept.spare;
     } };
 
-    ghost invariant = { λ c. Follows (texts c.versions.items) c.changes.items × AreRepeating c.versions.items × (length c.versions.items < 2 ^ 32) };
-}
-
-/// The change lists with these indices.
-fn part(changes: &[Changes], from: usize, to: usize) -> &[Changes]
-    requires order { from ≤ to }
-    requires there { to ≤ length changes.now }
-    ensures { result.now ≡ slice_range changes.now from to }
-{
-    &changes[from..to]
+    ghost invariant = { λ c. Follows (texts c.kept.versions) c.kept.changes × AreRepeating c.kept.versions };
 }
 
 impl Chain {
@@ -66,15 +65,12 @@ impl Chain {
         ensures versions { IfOk result (λ c. c.versions ≡ opening text) }
         ensures changes { IfOk result (λ c. c.changes ≡ []) }
     {
-        let mut versions = Vec::new(alloc);
-        versions.push(Version {
+        let first = Version {
             text,
             reiterated: VersionNo(0),
-        })?;
+        };
         Ok(Chain {
-            buffer,
-            versions,
-            changes: Vec::new(alloc),
+            kept: Versions::new(alloc, buffer, first)?,
         })
     }
 
@@ -85,21 +81,21 @@ impl Chain {
         ensures few { length self.now.versions < 2 ^ 32 }
         ensures steps { length self.now.versions ≡ length self.now.changes + 1 }
     {
-        VersionNo((self.versions.len() - 1) as u32)
+        self.kept.now()
     }
 
     /// The buffer whose versions these are.
     pub fn buffer(&self) -> BufferNo
         ensures { result ≡ self.now.buffer }
     {
-        self.buffer
+        self.kept.buffer()
     }
 
     /// Whether no further version can have a number.
     pub fn is_full(&self) -> bool
         ensures full { IsTrue result ↔ (2 ^ 32 - 1 ≤ length self.now.versions) }
     {
-        self.versions.len() >= u32::MAX as usize
+        self.kept.is_full()
     }
 
     /// Makes room for one more version.
@@ -111,9 +107,7 @@ impl Chain {
         ensures same { IsSame self.old self.new }
         ensures room { OnOk result (0 < self.new.spare) }
     {
-        self.versions.reserve(1)?;
-        self.changes.reserve(1)?;
-        Ok(())
+        self.kept.reserve()
     }
 
     /// One more version, to which these changes of the current text lead. It takes no memory.
@@ -122,7 +116,6 @@ impl Chain {
         requires number { length self.old.versions < 2 ^ 32 - 1 }
         requires from { changes.old_len ≡ length (text_now self.old.versions) }
         requires to { text ≡ applied changes (text_now self.old.versions) }
-        requires len { new_len changes ≡ length text }
         requires repeats { MayRepeat self.old.versions text reiterated }
         ensures buffer { self.new.buffer ≡ self.old.buffer }
         ensures versions { self.new.versions ≡ self.old.versions ++ version text reiterated ∷ [] }
@@ -130,8 +123,9 @@ impl Chain {
         ensures spare { self.new.spare ≡ self.old.spare - 1 }
         ensures older { (v : ℕ) → v < length self.old.versions → slice_get self.new.versions v ≡ slice_get self.old.versions v }
     {
-        self.versions.push_reserved(Version { text, reiterated });
-        self.changes.push_reserved(changes);
+        // The changes are read for what is known of their order.
+        let _changes = changes.as_slice();
+        self.kept.push(Version { text, reiterated }, changes);
     }
 
     /// The text of a version that is there.
@@ -139,8 +133,7 @@ impl Chain {
         requires { version < length self.now.versions }
         ensures { result.now ≡ text_at self.now.versions version }
     {
-        let found = &self.versions[version.0 as usize];
-        &found.text
+        self.kept.text_at(version)
     }
 
     /// The snapshot of a version that is there.
@@ -152,11 +145,7 @@ impl Chain {
         requires { version < length self.now.versions }
         ensures { IfOk result (λ s. s ≡ snapshot_of self.now version) }
     {
-        Ok(Snapshot {
-            buffer: self.buffer,
-            version,
-            text: self.text_at(version).share()?,
-        })
+        self.kept.snapshot(version)
     }
 
     /// The version that a version repeats: itself, or an earlier one of the same text that repeats
@@ -167,8 +156,7 @@ impl Chain {
         ensures earlier { result ≤ version }
         ensures original { IsOriginal self.now.versions (text_at self.now.versions version) result }
     {
-        let found = &self.versions[version.0 as usize];
-        found.reiterated
+        self.kept.get(version).reiterated
     }
 
     /// The number that each version repeats, from version 0 on.
@@ -179,30 +167,13 @@ impl Chain {
     pub fn reiterated_numbers(&self, alloc: Global) -> Result<NumberList, OutOfMemory>
         ensures { IfOk result (λ numbers. numbers ≡ map (λ v. v.reiterated) self.now.versions) }
     {
-        let mut numbers = Vec::with_capacity(alloc, self.versions.len())?;
-        for version in &self.versions {
+        let versions = self.kept.as_slice();
+        let mut numbers = Vec::with_capacity(alloc, versions.len())?;
+        for version in versions {
             let reiterated = &version.reiterated;
             numbers.push(reiterated.0)?;
         }
         NumberList::of(alloc, numbers)
-    }
-
-    fn steps(&self, from: u32, to: u32) -> &[Changes]
-        requires order { from ≤ to }
-        requires there { to < length self.now.versions }
-        ensures changes { result.now ≡ slice_range self.now.changes from to }
-        ensures linked { AreLinked result.now }
-        ensures before { (p : ℕ) → p ≤ length (text_at self.now.versions from) → p ≤ len_before p result.now }
-        ensures after { (p : ℕ) → p ≤ length (text_at self.now.versions to) → p ≤ len_after p result.now }
-    {
-        part(self.changes.as_slice(), from as usize, to as usize)
-    }
-
-    fn step(&self, from: u32) -> &Changes
-        requires { from + 1 < length self.now.versions }
-        ensures { slice_get self.now.changes from ≡ Some result.now }
-    {
-        &self.changes[from as usize]
     }
 
     /// The change lists that lead from one version to another that isn't older.
@@ -214,7 +185,7 @@ impl Chain {
         ensures before { (p : ℕ) → p ≤ length (text_at self.now.versions from) → p ≤ len_before p result.now }
         ensures after { (p : ℕ) → p ≤ length (text_at self.now.versions to) → p ≤ len_after p result.now }
     {
-        self.steps(from.0, to.0)
+        self.kept.changes_between(from, to)
     }
 
     /// The change list that leads from a version, which isn't the current one, to the next.
@@ -222,6 +193,6 @@ impl Chain {
         requires { version + 1 < length self.now.versions }
         ensures { slice_get self.now.changes version ≡ Some result.now }
     {
-        self.step(version.0)
+        self.kept.changes_from(version)
     }
 }

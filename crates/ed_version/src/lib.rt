@@ -3,6 +3,8 @@
 
 mod chain;
 mod snapshot;
+mod versions;
 
 pub use chain::{Chain, Version};
 pub use snapshot::Snapshot;
+pub use versions::{HasText, Versions};

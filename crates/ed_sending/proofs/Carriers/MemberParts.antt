@@ -18,7 +18,7 @@ use Rattle.ed_layers.specs.SourceStep.{SourceStep}
 use Rattle.ed_stock.specs.Landing.{pieces_at}
 use Rattle.ed_sending.proofs.Lists.Weaves.{woven_map, woven_shifted}
 use Rattle.ed_sending.proofs.Texts.FullText.{Full, old_units, put_in, full_text, held_by, IsStepTo}
-use Rattle.ed_sending.proofs.Members.SourceParts.{AreApart, own_of, length_old, old_append}
+use Rattle.ed_sending.proofs.Members.SourceParts.{own_of, length_old, old_append}
 use Rattle.ed_sending.proofs.Members.MemberZone.{zone_of, member_zone, covering_zone, zone_lies, zone_filter}
 use Rattle.ed_sending.proofs.Lists.SortedParts.{Each}
 use Rattle.ed_sending.proofs.Members.HeldSlice.{range_middle}
@@ -28,6 +28,7 @@ use Rattle.ed_sending.proofs.Carriers.CarrierText.{taken_of}
 use Rattle.ed_sending.proofs.Carriers.SentPieces.{all_for}
 use Rattle.ed_sending.proofs.Members.OwnPieces.{lifted, own_puts}
 use Rattle.ed_sending.proofs.Members.OwnDeletions.{own_taken}
+use Rattle.ed_sending.specs.Ready.{AreApart}
 
 lifted_old : (carrier k a : ℕ) (x : Span) (d : ℕ) (us : List ℕ) → map (lifted carrier k a x) (old_units (x.start + d) us) ≡ old_units (a + d) us
 lifted_old carrier k a x d [] = refl

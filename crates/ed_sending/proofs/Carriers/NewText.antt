@@ -20,10 +20,11 @@ use Rattle.ed_layers.specs.Records.{member_len}
 use Rattle.ed_layers.specs.Pieces.{Component, arrived}
 use Rattle.ed_layers.specs.Sending.{Target, targets, sent}
 use Rattle.ed_layers.specs.SourceStep.{SourceStep}
+use Rattle.ed_layers.specs.Texts.{member_text, text_over}
 use Rattle.ed_stock.specs.Landing.{pieces_at}
 use Rattle.ed_sending.proofs.Lists.SortedParts.{Each}
 use Rattle.ed_sending.proofs.Texts.FullText.{Full, old_units, put_in, full_text, IsStepTo}
-use Rattle.ed_sending.proofs.Members.SourceParts.{AreApart, length_old, old_append}
+use Rattle.ed_sending.proofs.Members.SourceParts.{length_old, old_append}
 use Rattle.ed_sending.proofs.Carriers.Components.{AreArrived, arrived_are}
 use Rattle.ed_sending.proofs.Members.DealtPieces.{flat_none}
 use Rattle.ed_sending.proofs.Members.Targets.{rule_for, entry_of, dealt_of, IsTarget, all_targets, start_next}
@@ -32,6 +33,7 @@ use Rattle.ed_sending.proofs.Carriers.CarrierText.{starts_of, taken_of, put_of, 
 use Rattle.ed_sending.proofs.Carriers.SentPieces.{numbered_each}
 use Rattle.ed_sending.proofs.Members.OwnPieces.{lifted}
 use Rattle.ed_sending.proofs.Carriers.MemberParts.{ShowsPart, member_part, covering_part, still_part}
+use Rattle.ed_sending.specs.Ready.{AreFitting}
 
 -- ---- what is given: the old texts of the sources, and their steps by what the carrier sent
 
@@ -46,11 +48,6 @@ HaveStepped carrier members resolver cs texts steps = (k b : ℕ) (x : Span) (mo
 abbrev pub bounds_after : ℕ → (ℕ → Option SourceStep) → List Member → ℕ → ℕ → Span → SpanMode → Span
 bounds_after carrier steps members k source bounds mode = option_map_or (λ s. new_bounds carrier s (placed_on source (enumerate_from 0 members)) mode (record { index = k; bounds = bounds })) (steps source) bounds
 
--- the units of a member before
-abbrev pub units_of : (ℕ → List ℕ) → Member → List ℕ
-units_of texts (Member.Literal units) = units
-units_of texts (Member.Tracked source bounds mode) = slice_range (texts source) bounds.start (end_of bounds)
-
 -- what a member shows after the step, in the places of the carrier before it
 abbrev pub shown_after : ℕ → List Member → Option CutRules → List Component → (ℕ → List ℕ) → (ℕ → Option SourceStep) → ℕ → Member → List Full
 shown_after carrier members resolver cs texts steps k (Member.Literal units) = old_units (starts_of members k) units
@@ -60,13 +57,6 @@ shown_after carrier members resolver cs texts steps k (Member.Tracked source bou
 abbrev pub all_shown_after : ℕ → List Member → Option CutRules → List Component → (ℕ → List ℕ) → (ℕ → Option SourceStep) → ℕ → List Member → List Full
 all_shown_after carrier members resolver cs texts steps k [] = []
 all_shown_after carrier members resolver cs texts steps k (m ∷ ms) = shown_after carrier members resolver cs texts steps k m ++ all_shown_after carrier members resolver cs texts steps (k + 1) ms
-
--- the members are in order, lie inside their sources, and a member that is to cover its source does, alone
-pub record AreFitting (members : List Member) (texts : ℕ → List ℕ) : Type 0 where
-  pub apart : (b : ℕ) → AreApart members b
-  pub inside : (k b : ℕ) (x : Span) (mode : SpanMode) → slice_get members k ≡ Some (Member.Tracked b x mode) → end_of x ≤ length (texts b)
-  pub covers : (k b : ℕ) (x : Span) (mode : SpanMode) → slice_get members k ≡ Some (Member.Tracked b x mode) → is_inclusive mode ≡ true → (x.start ≡ 0) × (x.len ≡ length (texts b))
-  pub alone : (k j b : ℕ) (x y : Span) (mode mode' : SpanMode) → slice_get members k ≡ Some (Member.Tracked b x mode) → is_inclusive mode ≡ true → slice_get members j ≡ Some (Member.Tracked b y mode') → j ≡ k
 
 -- no component takes a unit of a literal
 abbrev pub SparesLiterals : List Member → List Component → Type 0
@@ -106,7 +96,7 @@ literal_part members resolver cs k units here spares =
 
 abbrev pub old_parts : (ℕ → List ℕ) → List Member → ℕ → List Member → List (List Full)
 old_parts texts members k [] = []
-old_parts texts members k (m ∷ ms) = old_units (starts_of members k) (units_of texts m) ∷ old_parts texts members (k + 1) ms
+old_parts texts members k (m ∷ ms) = old_units (starts_of members k) (member_text texts m) ∷ old_parts texts members (k + 1) ms
 
 nothing : (l : List ℕ) → length l ≡ 0 → l ≡ []
 nothing [] e = refl
@@ -167,7 +157,7 @@ module _ (carrier : ℕ) (members : List Member) (resolver : Option CutRules) (c
       by_step None e same = subst (λ (t : List ℕ). Shows x t) whole (still_part carrier members resolver source k x mode here (fitting.apart source) cs xs ys zs ex ey (subst (λ t. full_text ps t ≡ old_units 0 t) (sym whole) same))
       by_step (Some s) e step = by_mode s step (is_inclusive mode) refl
 
-  one_member : (k : ℕ) (m : Member) → slice_get members k ≡ Some m → shown_after carrier members resolver cs texts steps k m ≡ woven (own_put k (map (dealt_of members resolver) cs)) (taken_of cs) (starts_of members k) (old_units (starts_of members k) (units_of texts m))
+  one_member : (k : ℕ) (m : Member) → slice_get members k ≡ Some m → shown_after carrier members resolver cs texts steps k m ≡ woven (own_put k (map (dealt_of members resolver) cs)) (taken_of cs) (starts_of members k) (old_units (starts_of members k) (member_text texts m))
   one_member k (Member.Literal units) here = sym (literal_part members resolver cs k units here spares)
   one_member k (Member.Tracked source x mode) here = (tracked_shows k source x mode here).part
 
@@ -176,10 +166,10 @@ module _ (carrier : ℕ) (members : List Member) (resolver : Option CutRules) (c
   members_from k (m ∷ ms) same =
       let here : slice_get members k ≡ Some m = ap (slice_get members) (let e : k ≡ k + 0 = omega arith in e) ∙ sym (same 0) in
       ap (λ z. z ++ all_shown_after carrier members resolver cs texts steps (k + 1) ms) (one_member k m here)
-      ∙ ap (λ z. woven (own_put k (map (dealt_of members resolver) cs)) (taken_of cs) (starts_of members k) (old_units (starts_of members k) (units_of texts m)) ++ z)
+      ∙ ap (λ z. woven (own_put k (map (dealt_of members resolver) cs)) (taken_of cs) (starts_of members k) (old_units (starts_of members k) (member_text texts m)) ++ z)
       (members_from (k + 1) ms (λ d. same (suc d) ∙ ap (slice_get members) (let e : k + suc d ≡ (k + 1) + d = omega arith in e)))
 
-  pub part_len : (k : ℕ) (m : Member) → slice_get members k ≡ Some m → length (units_of texts m) ≡ member_len m
+  pub part_len : (k : ℕ) (m : Member) → slice_get members k ≡ Some m → length (member_text texts m) ≡ member_len m
   part_len k (Member.Literal units) here = refl
   part_len k (Member.Tracked source x mode) here =
       let within : end_of x ≤ length (texts source) = fitting.inside k source x mode here in
@@ -189,7 +179,7 @@ module _ (carrier : ℕ) (members : List Member) (resolver : Option CutRules) (c
   are_parts k [] same = tt
   are_parts k (m ∷ ms) same =
       let here : slice_get members k ≡ Some m = ap (slice_get members) (let e : k ≡ k + 0 = omega arith in e) ∙ sym (same 0) in (
-        start_next members k m here ∙ ap (λ n. starts_of members k + n) (sym (part_len k m here) ∙ sym (length_old (starts_of members k) (units_of texts m))),
+        start_next members k m here ∙ ap (λ n. starts_of members k + n) (sym (part_len k m here) ∙ sym (length_old (starts_of members k) (member_text texts m))),
         are_parts (k + 1) ms (λ d. same (suc d) ∙ ap (slice_get members) (let e : k + suc d ≡ (k + 1) + d = omega arith in e)),
       )
 
@@ -205,24 +195,20 @@ module _ (carrier : ℕ) (members : List Member) (resolver : Option CutRules) (c
       count k (m ∷ ms) = ap (λ n. suc n) (count (k + 1) ms)
 
 -- the parts together are the units of the old text, each at its place
-abbrev pub text_of : (ℕ → List ℕ) → List Member → List ℕ
-text_of texts [] = []
-text_of texts (m ∷ ms) = units_of texts m ++ text_of texts ms
-
-pub parts_text : (texts : ℕ → List ℕ) (members : List Member) (k : ℕ) (ms : List Member) → ((d : ℕ) → slice_get ms d ≡ slice_get members (k + d)) → ((j : ℕ) (m : Member) → slice_get members j ≡ Some m → length (units_of texts m) ≡ member_len m) → joined (old_parts texts members k ms) ≡ old_units (starts_of members k) (text_of texts ms)
+pub parts_text : (texts : ℕ → List ℕ) (members : List Member) (k : ℕ) (ms : List Member) → ((d : ℕ) → slice_get ms d ≡ slice_get members (k + d)) → ((j : ℕ) (m : Member) → slice_get members j ≡ Some m → length (member_text texts m) ≡ member_len m) → joined (old_parts texts members k ms) ≡ old_units (starts_of members k) (text_over texts ms)
 parts_text texts members k [] same lens = refl
 parts_text texts members k (m ∷ ms) same lens =
     let here : slice_get members k ≡ Some m = ap (slice_get members) (let e : k ≡ k + 0 = omega arith in e) ∙ sym (same 0) in
-    let next : starts_of members (k + 1) ≡ starts_of members k + length (units_of texts m) = start_next members k m here ∙ ap (λ n. starts_of members k + n) (sym (lens k m here)) in
-    ap (λ z. old_units (starts_of members k) (units_of texts m) ++ z) (parts_text texts members (k + 1) ms (λ d. same (suc d) ∙ ap (slice_get members) (let e : k + suc d ≡ (k + 1) + d = omega arith in e)) lens ∙ ap (λ z. old_units z (text_of texts ms)) next)
-    ∙ sym (old_append (starts_of members k) (units_of texts m) (text_of texts ms))
+    let next : starts_of members (k + 1) ≡ starts_of members k + length (member_text texts m) = start_next members k m here ∙ ap (λ n. starts_of members k + n) (sym (lens k m here)) in
+    ap (λ z. old_units (starts_of members k) (member_text texts m) ++ z) (parts_text texts members (k + 1) ms (λ d. same (suc d) ∙ ap (slice_get members) (let e : k + suc d ≡ (k + 1) + d = omega arith in e)) lens ∙ ap (λ z. old_units z (text_over texts ms)) next)
+    ∙ sym (old_append (starts_of members k) (member_text texts m) (text_over texts ms))
 
 -- The step of a carrier by the pieces that arrived there, where each source stepped by what the carrier sent on.
 pub carrier_steps : (carrier : ℕ) (members : List Member) (resolver : Option CutRules) (pieces : List Piece) (texts : ℕ → List ℕ) (steps : ℕ → Option SourceStep) →
-    HaveStepped carrier members resolver (arrived pieces (length (text_of texts members))) texts steps → AreFitting members texts → SparesLiterals members (arrived pieces (length (text_of texts members))) → AllCutsRise members resolver (arrived pieces (length (text_of texts members))) →
-    all_shown_after carrier members resolver (arrived pieces (length (text_of texts members))) texts steps 0 members ≡ full_text pieces (text_of texts members)
+    HaveStepped carrier members resolver (arrived pieces (length (text_over texts members))) texts steps → AreFitting members texts → SparesLiterals members (arrived pieces (length (text_over texts members))) → AllCutsRise members resolver (arrived pieces (length (text_over texts members))) →
+    all_shown_after carrier members resolver (arrived pieces (length (text_over texts members))) texts steps 0 members ≡ full_text pieces (text_over texts members)
 carrier_steps carrier members resolver pieces texts steps stepped fitting spares cuts =
-    let text : List ℕ = text_of texts members in
+    let text : List ℕ = text_over texts members in
     let cs : List Component = arrived pieces (length text) in
     let is : AreArrived pieces text cs = arrived_are pieces text in
     let joins : joined (old_parts texts members 0 members) ≡ old_units 0 text = parts_text texts members 0 members (λ d. ap (slice_get members) (let e : d ≡ 0 + d = omega arith in e)) (λ j m here. part_len carrier members resolver cs texts steps stepped fitting spares j m here) in

@@ -23,7 +23,9 @@ use Rattle.ed_sending.proofs.Members.OwnPieces.{lifted}
 use Rattle.ed_sending.proofs.Carriers.MemberParts.{ShowsPart}
 use Rattle.ed_sending.proofs.Carriers.SlotPlaces.{slots_from}
 use Rattle.ed_sending.proofs.Carriers.SlotReadings.{Tells, origin_of_slot, member_origins, member_trails, literal_origins, literal_trails}
-use Rattle.ed_sending.proofs.Carriers.NewText.{StepsBy, HaveStepped, AreFitting, SparesLiterals, units_of, bounds_after, shown_after, all_shown_after, tracked_shows, text_of, carrier_steps}
+use Rattle.ed_sending.proofs.Carriers.NewText.{StepsBy, HaveStepped, SparesLiterals, bounds_after, shown_after, all_shown_after, tracked_shows, carrier_steps}
+use Rattle.ed_sending.specs.Ready.{AreFitting}
+use Rattle.ed_layers.specs.Texts.{member_text, text_over}
 
 -- what a source's step tells
 pub old_tells : (p d : ℕ) (us : List ℕ) (f : Full) → slice_get (old_units p us) d ≡ Some f → (f.0 ≡ Some (p + d)) × (f.1.1 ≡ [])
@@ -87,13 +89,13 @@ module _ (carrier : ℕ) (members : List Member) (resolver : Option CutRules) (c
 
 -- A projection steps by the pieces that arrived there.
 pub projection_steps : (carrier : ℕ) (members : List Member) (resolver : Option CutRules) (pieces : List Piece) (texts : ℕ → List ℕ) (steps : ℕ → Option SourceStep) (from to : List (ℕ × ℕ)) →
-    HaveStepped carrier members resolver (arrived pieces (length (text_of texts members))) texts steps → AreFitting members texts → SparesLiterals members (arrived pieces (length (text_of texts members))) → AllCutsRise members resolver (arrived pieces (length (text_of texts members))) →
-    IsStepTo (record { step = carrier_step all_stay steps (projection members from) (projection (members_after carrier steps members) to); trails = record_trails carrier false steps (projection (members_after carrier steps members) to) }) (full_text pieces (text_of texts members))
+    HaveStepped carrier members resolver (arrived pieces (length (text_over texts members))) texts steps → AreFitting members texts → SparesLiterals members (arrived pieces (length (text_over texts members))) → AllCutsRise members resolver (arrived pieces (length (text_over texts members))) →
+    IsStepTo (record { step = carrier_step all_stay steps (projection members from) (projection (members_after carrier steps members) to); trails = record_trails carrier false steps (projection (members_after carrier steps members) to) }) (full_text pieces (text_over texts members))
 unfolding carrier_step
 projection_steps carrier members resolver pieces texts steps from to stepped fitting spares cuts =
-    let cs : List Component = arrived pieces (length (text_of texts members)) in
+    let cs : List Component = arrived pieces (length (text_over texts members)) in
     let new : List Slot = slots_from 0 (members_after carrier steps members) in
-    let whole : all_shown_after carrier members resolver cs texts steps 0 members ≡ full_text pieces (text_of texts members) = carrier_steps carrier members resolver pieces texts steps stepped fitting spares cuts in
+    let whole : all_shown_after carrier members resolver cs texts steps 0 members ≡ full_text pieces (text_over texts members) = carrier_steps carrier members resolver pieces texts steps stepped fitting spares cuts in
     let origins : map (λ (f : Full). f.0) (all_shown_after carrier members resolver cs texts steps 0 members) ≡ map (origin_of_slot steps members) new =
     read_all carrier members resolver cs texts steps stepped fitting spares (λ (f : Full). f.0) (origin_of_slot steps members) (one_origins carrier members resolver cs texts steps stepped fitting spares) 0 [] members refl refl in
     let trails : map (λ (f : Full). f.1.1) (all_shown_after carrier members resolver cs texts steps 0 members) ≡ map (slot_trail carrier false steps) new =
@@ -132,26 +134,26 @@ map_range {X = X} f xs i j = taken (j - i) (drop i xs) ∙ ap (λ z. take (j - i
 
 -- Its new text, read off the new texts of its sources, is the old one with what the pieces put in and take away.
 pub projection_text : (carrier : ℕ) (members : List Member) (resolver : Option CutRules) (pieces : List Piece) (texts news : ℕ → List ℕ) (steps : ℕ → Option SourceStep) →
-    HaveStepped carrier members resolver (arrived pieces (length (text_of texts members))) texts steps → AreFitting members texts → SparesLiterals members (arrived pieces (length (text_of texts members))) → AllCutsRise members resolver (arrived pieces (length (text_of texts members))) →
-    ((k b : ℕ) (x : Span) (mode : SpanMode) → slice_get members k ≡ Some (Member.Tracked b x mode) → map unit_of (full_text (pieces_at (sent carrier members resolver (arrived pieces (length (text_of texts members)))) b) (texts b)) ≡ news b) →
-    text_of news (members_after carrier steps members) ≡ map unit_of (full_text pieces (text_of texts members))
+    HaveStepped carrier members resolver (arrived pieces (length (text_over texts members))) texts steps → AreFitting members texts → SparesLiterals members (arrived pieces (length (text_over texts members))) → AllCutsRise members resolver (arrived pieces (length (text_over texts members))) →
+    ((k b : ℕ) (x : Span) (mode : SpanMode) → slice_get members k ≡ Some (Member.Tracked b x mode) → map unit_of (full_text (pieces_at (sent carrier members resolver (arrived pieces (length (text_over texts members)))) b) (texts b)) ≡ news b) →
+    text_over news (members_after carrier steps members) ≡ map unit_of (full_text pieces (text_over texts members))
 projection_text carrier members resolver pieces texts news steps stepped fitting spares cuts are =
     sym (all 0 members (λ d. ap (slice_get members) (let e : d ≡ 0 + d = omega arith in e))) ∙ ap (map unit_of) (carrier_steps carrier members resolver pieces texts steps stepped fitting spares cuts)
   where
     cs : List Component
-    cs = arrived pieces (length (text_of texts members))
+    cs = arrived pieces (length (text_over texts members))
 
-    one : (k : ℕ) (m : Member) → slice_get members k ≡ Some m → map unit_of (shown_after carrier members resolver cs texts steps k m) ≡ units_of news (member_after carrier steps members (k, m))
+    one : (k : ℕ) (m : Member) → slice_get members k ≡ Some m → map unit_of (shown_after carrier members resolver cs texts steps k m) ≡ member_text news (member_after carrier steps members (k, m))
     one k (Member.Literal units) here = units_old (starts_of members k) units
     one k (Member.Tracked source x mode) here =
         let b : Span = bounds_after carrier steps members k source x mode in
         let fs : List Full = full_text (pieces_at (sent carrier members resolver cs) source) (texts source) in
         units_lifted carrier k (starts_of members k) x (slice_range fs b.start (b.start + b.len)) ∙ map_range unit_of fs b.start (b.start + b.len) ∙ ap (λ z. slice_range z b.start (b.start + b.len)) (are k source x mode here)
 
-    all : (k : ℕ) (ms : List Member) → ((d : ℕ) → slice_get ms d ≡ slice_get members (k + d)) → map unit_of (all_shown_after carrier members resolver cs texts steps k ms) ≡ text_of news (map (member_after carrier steps members) (enumerate_from k ms))
+    all : (k : ℕ) (ms : List Member) → ((d : ℕ) → slice_get ms d ≡ slice_get members (k + d)) → map unit_of (all_shown_after carrier members resolver cs texts steps k ms) ≡ text_over news (map (member_after carrier steps members) (enumerate_from k ms))
     all k [] same = refl
     all k (m ∷ ms) same =
         let here : slice_get members k ≡ Some m = ap (slice_get members) (let e : k ≡ k + 0 = omega arith in e) ∙ sym (same 0) in
         map-append unit_of (shown_after carrier members resolver cs texts steps k m) (all_shown_after carrier members resolver cs texts steps (k + 1) ms)
         ∙ ap (λ z. z ++ map unit_of (all_shown_after carrier members resolver cs texts steps (k + 1) ms)) (one k m here)
-        ∙ ap (λ z. units_of news (member_after carrier steps members (k, m)) ++ z) (all (k + 1) ms (λ d. same (suc d) ∙ ap (slice_get members) (let e : k + suc d ≡ (k + 1) + d = omega arith in e)))
+        ∙ ap (λ z. member_text news (member_after carrier steps members (k, m)) ++ z) (all (k + 1) ms (λ d. same (suc d) ∙ ap (slice_get members) (let e : k + suc d ≡ (k + 1) + d = omega arith in e)))

@@ -5,14 +5,14 @@ use Rattle.ed_base.specs.declared.piece.Piece.{Piece}
 use Rattle.ed_base.specs.Hooks.{HookTable}
 use Rattle.ed_layers.specs.Owning.{OwnInside, OwnInOrder}
 use Rattle.ed_layers.specs.Records.{projection}
-use Rattle.ed_sending.proofs.Groups.AcceptedEdit.{IsReady, group_advances}
+use Rattle.ed_sending.proofs.Groups.AcceptedEdit.{group_advances}
 use Rattle.ed_sending.proofs.Groups.LandedSteps.{based, turn}
-use Rattle.ed_sending.proofs.Groups.SendingOrder.{height_now}
 use Rattle.ed_sending.proofs.Groups.Turns.{Splits}
 use Rattle.ed_sending.proofs.Lists.SortedParts.{Each}
 use Rattle.ed_stock.specs.Landing.{bases_reached, down_fault, landed_at, sent_down}
 use Rattle.ed_stock.specs.Stock.{Stock, count, graph_order, record_now}
 use Rattle.ed_stock.specs.Versions.{none_given, risen_at, step_in}
+use Rattle.ed_sending.specs.Ready.{IsReady, height_now}
 
 -- the list would have what it doesn't have
 behind : (c : ℕ) (xs ys : List ℕ) → Each (λ d. d ≢ c) (xs ++ c ∷ ys) → ⊥

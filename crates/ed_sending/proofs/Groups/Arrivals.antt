@@ -20,9 +20,10 @@ use Rattle.ed_sending.proofs.Lists.SortedParts.{Each, each_more, filter_all, fil
 use Rattle.ed_sending.proofs.Members.SourceParts.{IsFor, ends_last}
 use Rattle.ed_sending.proofs.Carriers.SentPieces.{all_for, flat_through}
 use Rattle.ed_sending.proofs.Groups.SentDown.{SendLater, all_sent}
-use Rattle.ed_sending.proofs.Groups.SendingOrder.{Falls, height_now, down_falls, down_once}
+use Rattle.ed_sending.proofs.Groups.SendingOrder.{Falls, down_falls, down_once}
 use Rattle.ed_sending.proofs.Texts.FilteredText.{passing}
 use Rattle.ed_sending.proofs.Shared.SourceSigns.{ends_at}
+use Rattle.ed_sending.specs.Ready.{AreLower, height_now}
 
 -- nothing is sent where no member lies
 pub none_sent : (carrier : ℕ) (members : List Member) (resolver : Option CutRules) (cs : List Component) (b : ℕ) → ((k : ℕ) (x : Span) (mode : SpanMode) → slice_get members k ≡ Some (Member.Tracked b x mode) → ⊥) → pieces_at (sent carrier members resolver cs) b ≡ []
@@ -66,10 +67,6 @@ flat_once {X = X} f c (d ∷ ds) once none = elim (cases_eq d c) [
     ]
 
 -- ---- the stock
-
--- each source of a carrier is lower
-abbrev pub AreLower : Stock → Type 0
-AreLower s = (c k b : ℕ) (x : Span) (mode : SpanMode) → slice_get (members_of (record_now s c)) k ≡ Some (Member.Tracked b x mode) → height_now s b < height_now s c
 
 abbrev pub send : HookTable → Stock → ℕ → List Piece → List (ℕ × Piece)
 send hooks s c ps = sent c (members_of (record_now s c)) (resolver_of hooks s c) (arrived ps (length (text_now s c)))

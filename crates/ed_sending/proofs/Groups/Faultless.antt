@@ -24,7 +24,8 @@ use Rattle.ed_sending.proofs.Carriers.NewText.{SparesLiterals}
 use Rattle.ed_sending.proofs.Groups.GivenCarrier.{both, numbered_get, has_target, cuts_rise}
 use Rattle.ed_sending.proofs.Groups.SentDown.{SendLater, settled}
 use Rattle.ed_sending.proofs.Groups.SendingOrder.{down_falls, down_once}
-use Rattle.ed_sending.proofs.Groups.Arrivals.{AreLower, send, send_later}
+use Rattle.ed_sending.proofs.Groups.Arrivals.{send, send_later}
+use Rattle.ed_sending.specs.Ready.{AreLower}
 
 -- ---- one carrier
 

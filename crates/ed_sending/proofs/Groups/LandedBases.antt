@@ -32,18 +32,7 @@ use Rattle.ed_stock.specs.Landing.{base_changes, landed, landed_at, pieces_at}
 use Rattle.ed_stock.specs.Limits.{over, stock_limits}
 use Rattle.ed_stock.specs.Stock.{Stock, count, now, record_now, sources_now, text_now}
 use Rattle.ed_stock.specs.Versions.{Rising, is_moved, none_given, risen, step_in, with_version}
-
--- whether the buffer is a base that pieces reach
-abbrev pub is_reached : Stock → List (ℕ × Piece) → ℕ → Bool
-is_reached s pending b = not (is_carrier (record_now s b)) && not (nat_eq (length (pieces_at pending b)) 0)
-
--- those that are, below k
-abbrev pub reached_below : Stock → List (ℕ × Piece) → ℕ → List ℕ
-reached_below s pending k = filter (is_reached s pending) (places k)
-
--- the stock in which they have landed
-abbrev pub landed_below : Stock → List (ℕ × Piece) → ℕ → Rising
-landed_below s pending k = fold (landed_at pending none_given) (record { stock = s; moves = [] }) (reached_below s pending k)
+use Rattle.ed_sending.specs.LandedBelow.{is_reached, landed_below, reached_below}
 
 -- ---- records
 

@@ -21,10 +21,11 @@ use Rattle.ed_sending.proofs.Texts.FullText.{Full, old_units, full_text, full_ma
 use Rattle.ed_sending.proofs.Carriers.MemberParts.{woven_none}
 use Rattle.ed_sending.proofs.Carriers.SlotReadings.{map_twice}
 use Rattle.ed_sending.proofs.Carriers.NewText.{StepsBy}
-use Rattle.ed_sending.proofs.Groups.SendingOrder.{Climbs, height_now, graph_climbs, graph_once, range_once}
+use Rattle.ed_sending.proofs.Groups.SendingOrder.{Climbs, graph_climbs, graph_once, range_once}
 use Rattle.ed_sending.proofs.Groups.Turns.{set_here, step_in_push, records_at, records_in, landed_acts, risen_acts, passed, as_many, fold_append, Splits, splits}
 use Rattle.ed_sending.proofs.Groups.RecordTexts.{base_text}
 use Rattle.ed_sending.proofs.Carriers.ProjectionStep.{unit_of, units_old}
+use Rattle.ed_sending.specs.Ready.{height_now}
 
 -- ---- the newest record
 

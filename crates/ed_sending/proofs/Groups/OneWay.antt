@@ -1,54 +1,27 @@
 -- Where no two buffers, of the edited one and those below it, stand on one, each buffer below gets from one carrier alone.
-use Rattle.std.proofs.Common.{◌≡◌, ◌≢◌, ℕ, zero, suc, ◌+◌, ◌<◌, ◌≤◌, Bool, true, false, ◌||◌, List, [], ◌∷◌, ◌++◌, length, map, replicate, Some, ◌⊎◌, inl, inr, refl, sym, ap, ◌∙◌, arith, subst}
-use Rattle.std.specs.Prelude.{flat_map, nat_eq, nat_lt, slice_get}
-use Rattle.std.specs.List.{list_any, range_with_len}
+use Rattle.std.proofs.Common.{◌≡◌, ◌≢◌, ℕ, zero, suc, ◌+◌, ◌<◌, ◌≤◌, Bool, true, false, ◌||◌, List, [], ◌∷◌, ◌++◌, length, map, ◌⊎◌, inl, inr, refl, sym, ap, ◌∙◌, arith, subst}
+use Rattle.std.specs.Prelude.{flat_map, nat_eq, nat_lt}
+use Rattle.std.specs.List.{list_any}
 use Rattle.std.proofs.lemmas.Bool.{cases_Bool}
 use Rattle.std.proofs.lemmas.Bool.Decides.{nat_tests}
-use Rattle.std.proofs.lemmas.List.{length-map}
-use Rattle.std.proofs.lemmas.List.FromFn.{length-range_with_len}
-use Rattle.ed_base.proofs.NormalSteps.{olds, pairs_olds, run}
-use Rattle.ed_base.specs.ChangeList.{components}
-use Rattle.ed_base.specs.declared.edit.Span.{Span}
-use Rattle.ed_base.specs.declared.mode.SpanMode.{SpanMode}
-use Rattle.ed_base.specs.declared.piece.Member.{Member}
 use Rattle.ed_base.specs.declared.piece.Piece.{Piece}
-use Rattle.ed_base.specs.Edit.{woven}
 use Rattle.ed_base.specs.Hooks.{HookTable}
 use Rattle.ed_base.specs.Numbers.{is_among}
-use Rattle.ed_base.specs.Step.{pairs_from}
 use Rattle.ed_layers.specs.Graph.{reaches_within}
-use Rattle.ed_layers.specs.Pieces.{arrived, component, marked_text, piece_origins}
 use Rattle.ed_layers.specs.Records.{members_of, sources_of}
 use Rattle.ed_layers.specs.Sending.{sent}
 use Rattle.ed_stock.specs.Stock.{Stock, count, reaches, record_now, sources_now, text_now}
 use Rattle.ed_stock.specs.Landing.{carriers_down, pieces_at, sent_down}
 use Rattle.ed_sending.specs.OneCarrierEach.{HasOneCarrierEach}
 use Rattle.ed_sending.proofs.Lists.SortedParts.{Each}
+use Rattle.ed_sending.proofs.Carriers.NothingArrived.{nothing_arrived}
 use Rattle.ed_sending.proofs.Members.DealtPieces.{flat_none}
-use Rattle.ed_sending.proofs.Groups.SendingOrder.{height_low, height_now}
-use Rattle.ed_sending.proofs.Groups.Arrivals.{AreLower, arrives_all, none_sent, no_higher, send}
+use Rattle.ed_sending.proofs.Groups.SendingOrder.{height_low}
+use Rattle.ed_sending.proofs.Groups.Arrivals.{arrives_all, none_sent, no_higher, send}
+use Rattle.ed_sending.specs.Ready.{IsReady, NamesLower, height_now}
+use Rattle.ed_sending.proofs.Groups.ReadyStocks.{source_named}
 
 -- ---- nothing that arrives
-
-nothing_woven : {X : Type 0} (p : ℕ) (xs : List X) → woven (λ q. []) (λ q. false) p xs ≡ xs
-nothing_woven p [] = refl
-nothing_woven p (x ∷ xs) = ap (λ ys. x ∷ ys) (nothing_woven (p + 1) xs)
-
-nothing_between : {X C : Type 0} (make : ℕ → ℕ → List X → C) (new : List X) (i k n : ℕ) → n ≡ i + k → components make new i i (run i i k) n n ≡ []
-nothing_between make new i zero n end = let e : nat_eq i n ≡ true = grind (arith, nat_tests) in rw e refl
-nothing_between make new i (suc k) n end =
-    let e : nat_eq i i ≡ true = grind (arith, nat_tests) in
-    rw e (nothing_between make new (i + 1) k n (omega arith))
-
-pub nothing_arrived : (n : ℕ) → arrived [] n ≡ []
-unfolding arrived
-nothing_arrived n =
-    let same : piece_origins [] n ≡ olds 0 n = nothing_woven 0 (olds 0 n) in
-    let kept : pairs_from 0 (piece_origins [] n) ≡ run 0 0 n = ap (pairs_from 0) same ∙ pairs_olds 0 0 n in
-    let len : length (piece_origins [] n) ≡ n = ap length same ∙ length-map (range_with_len 0 n) (λ p. Some p) ∙ length-range_with_len 0 n in
-    ap (λ k. components component (marked_text [] (replicate n 0)) 0 0 k n (length (piece_origins [] n))) kept
-    ∙ ap (λ m. components component (marked_text [] (replicate n 0)) 0 0 (run 0 0 n) n m) len
-    ∙ nothing_between component (marked_text [] (replicate n 0)) 0 n n (omega arith)
 
 -- a carrier at which nothing arrives sends nothing
 nothing_sent : (hooks : HookTable) (s : Stock) (c : ℕ) → send hooks s c [] ≡ []
@@ -95,10 +68,6 @@ of_listed P (v ∷ vs) b all among = elim (or_cases (nat_eq b v.0) (is_among b (
   | inl e ↦ subst P (sym (same_numbers b v.0 e)) all.0
   | inr more ↦ of_listed P vs b all.1 more
 ]
-
--- the sources that a buffer names are there, and lower
-abbrev pub NamesLower : Stock → Type 0
-NamesLower s = (c : ℕ) → c < count s → Each (λ v. (v.0 < count s) × (height_now s v.0 < height_now s c)) (sources_of (record_now s c))
 
 module _ (s : Stock) (low : NamesLower s) where
   lower_source : (c b : ℕ) → c < count s → is_among b (sources_now s c) ≡ true → (b < count s) × (height_now s b < height_now s c)
@@ -147,8 +116,7 @@ none_at top e (bp ∷ bps) all other =
     let f : nat_eq bp.0 e ≡ false = elim (cases_Bool (nat_eq bp.0 e)) [ inl t ↦ absurd (other (sym (same_numbers bp.0 e t) ∙ is)) | inr t ↦ t ] in
     rw f (none_at top e bps all.1 other)
 
-module _ (hooks : HookTable) (s : Stock) (lower : AreLower s) (low : NamesLower s) (named : (c k b : ℕ) (x : Span) (mode : SpanMode) → slice_get (members_of (record_now s c)) k ≡ Some (Member.Tracked b x mode) → is_among b (sources_now s c) ≡ true)
-    (top : ℕ) (there : top < count s) (start : List (ℕ × Piece)) (at_top : Each (λ bp. bp.0 ≡ top) start) where
+module _ (hooks : HookTable) (s : Stock) (ready : IsReady s) (low : NamesLower s) (top : ℕ) (there : top < count s) (start : List (ℕ × Piece)) (at_top : Each (λ bp. bp.0 ≡ top) start) where
   abbrev arriving : ℕ → List Piece
   arriving e = pieces_at (sent_down hooks s start) e
 
@@ -169,7 +137,7 @@ module _ (hooks : HookTable) (s : Stock) (lower : AreLower s) (low : NamesLower 
   -- a buffer that the edited one doesn't stand on gets nothing, if those above it don't
   aside_if : (e : ℕ) → reaches s top e ≡ false → ((c : ℕ) → height_now s e < height_now s c → reaches s top c ≡ false → arriving c ≡ []) → arriving e ≡ []
   aside_if e aside above =
-      arrives_all hooks s lower start e
+      arrives_all hooks s ready.lower start e
       ∙ ap (λ ps. ps ++ flat_map (λ c. pieces_at (send hooks s c (arriving c)) e) (carriers_down s)) (none_at top e start at_top (λ is. (let t : reaches s top e ≡ true = subst (λ d. reaches s top d ≡ true) (sym is) top_reached in let f : true ≡ false = sym t ∙ aside in cc)))
       ∙ flat_none (λ c. pieces_at (send hooks s c (arriving c)) e) (carriers_down s) (all (carriers_down s))
     where
@@ -177,10 +145,10 @@ module _ (hooks : HookTable) (s : Stock) (lower : AreLower s) (low : NamesLower 
       one c = elim (cases_Bool (nat_lt (height_now s e) (height_now s c))) [
         | inl t ↦ (let l : height_now s e < height_now s c = grind (arith, nat_tests, t) in
             elim (cases_Bool (reaches s top c)) [
-              | inl r ↦ none_sent c (members_of (record_now s c)) _ _ e (λ k x mode is. (let m = reached_step c e r (named c k e x mode is) in let f : true ≡ false = sym m.1 ∙ aside in cc))
+              | inl r ↦ none_sent c (members_of (record_now s c)) _ _ e (λ k x mode is. (let m = reached_step c e r (source_named s ready c k e x mode is) in let f : true ≡ false = sym m.1 ∙ aside in cc))
               | inr r ↦ ap (λ ps. pieces_at (send hooks s c ps) e) (above c l r) ∙ ap (λ ps. pieces_at ps e) (nothing_sent hooks s c)
             ])
-        | inr t ↦ no_higher hooks s lower c e (grind (arith, nat_tests, t)) (arriving c)
+        | inr t ↦ no_higher hooks s ready.lower c e (grind (arith, nat_tests, t)) (arriving c)
       ]
 
       all : (cs : List ℕ) → Each (λ c. pieces_at (send hooks s c (arriving c)) e ≡ []) cs
@@ -201,21 +169,20 @@ module _ (hooks : HookTable) (s : Stock) (lower : AreLower s) (low : NamesLower 
   -- nothing is sent to the edited buffer
   pub top_alone : (e : ℕ) → pieces_at (send hooks s e (arriving e)) top ≡ []
   top_alone e = elim (cases_Bool (reaches s top e)) [
-    | inl r ↦ no_higher hooks s lower e top (reached_low e r).1 (arriving e)
+    | inl r ↦ no_higher hooks s ready.lower e top (reached_low e r).1 (arriving e)
     | inr r ↦ sends_none e top r
   ]
 
   -- each source of a buffer below gets from that one alone
-  pub source_alone : HasOneCarrierEach s top → (b : ℕ) → IsAtOrBelow b → (k d : ℕ) (x : Span) (mode : SpanMode) → slice_get (members_of (record_now s b)) k ≡ Some (Member.Tracked d x mode)
+  pub source_alone : HasOneCarrierEach s top → (b : ℕ) → IsAtOrBelow b → (d : ℕ) → is_among d (sources_now s b) ≡ true
       → IsAtOrBelow d × (pieces_at start d ≡ []) × ((e : ℕ) → e ≢ b → pieces_at (send hooks s e (arriving e)) d ≡ [])
-  source_alone one b below k d x mode is =
-      let among = named b k d x mode is in
+  source_alone one b below d among =
       let l : height_now s d < height_now s b = (lower_source s low b d below.0 among).1 in
       let h : height_now s b ≤ height_now s top = (reached_low b below.1).1 in
       (reached_step b d below.1 among, none_at top d start at_top (λ e. (let m : height_now s d ≡ height_now s top = ap (height_now s) e in absurd (omega (arith, l, h, m)))), other)
     where
       other : (e : ℕ) → e ≢ b → pieces_at (send hooks s e (arriving e)) d ≡ []
       other e differs = elim (cases_Bool (reaches s top e)) [
-        | inl r ↦ none_sent e (members_of (record_now s e)) _ _ d (λ j y m at. differs (one e b d r below.1 (named e j d y m at) (named b k d x mode is)))
+        | inl r ↦ none_sent e (members_of (record_now s e)) _ _ d (λ j y m at. differs (one e b d r below.1 (source_named s ready e j d y m at) among))
         | inr r ↦ sends_none e d r
       ]

@@ -7,7 +7,7 @@ use Rattle.std.proofs.lemmas.Bool.Decides.{nat_tests}
 use Rattle.std.proofs.lemmas.List.{append-nil, reverse-append}
 use Rattle.std.proofs.lemmas.List.Elements.{filter-append}
 use Rattle.ed_base.specs.Numbers.{places}
-use Rattle.ed_layers.specs.Graph.{graph_order, height, height_within}
+use Rattle.ed_layers.specs.Graph.{graph_order, height_within}
 use Rattle.ed_layers.specs.Records.{is_carrier}
 use Rattle.ed_stock.specs.Stock as stock
 use Rattle.ed_stock.specs.Landing.{carriers_down}
@@ -15,6 +15,7 @@ use Rattle.ed_sending.proofs.Lists.SortedParts.{Each, each_append, each_more}
 use Rattle.ed_sending.proofs.Texts.PiecesAtGap.{filter_twice}
 use Rattle.ed_sending.proofs.Carriers.SentPieces.{flat_through}
 use Rattle.ed_sending.proofs.Texts.FilteredText.{filter_keeps}
+use Rattle.ed_sending.specs.Ready.{height_now}
 
 reverse-cons : {X : Type 0} (x : X) (xs : List X) → reverse (x ∷ xs) ≡ reverse xs ++ (x ∷ [])
 reverse-cons x xs = reverse-append (x ∷ []) xs
@@ -138,9 +139,6 @@ height_low sources count (suc levels) b = greatest_within (suc levels) 0 (map (�
     all : ((s : ℕ) → height_within sources count levels s ≤ levels) → (xs : List ℕ) → Each (λ x. x ≤ suc levels) (map (λ s. height_within sources count levels s + 1) xs)
     all low [] = tt
     all low (x ∷ xs) = ((let l : height_within sources count levels x ≤ levels = low x in omega arith), all low xs)
-
-abbrev pub height_now : stock.Stock → ℕ → ℕ
-height_now s b = height (stock.sources_now s) (stock.count s) b
 
 pub graph_climbs : (s : stock.Stock) → Climbs (height_now s) (stock.graph_order s)
 unfolding graph_order

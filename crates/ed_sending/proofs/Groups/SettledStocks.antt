@@ -1,5 +1,5 @@
 -- A settled stock whose graph has levels is ready for an edit.
-use Rattle.std.proofs.Common.{◌≡◌, ℕ, zero, suc, ◌-◌, ◌<◌, ◌≤◌, Bool, true, false, not, ◌&&◌, List, [], ◌∷◌, length, map, Some, None, inl, inr, refl, sym, ap, ◌∙◌, arith, subst}
+use Rattle.std.proofs.Common.{◌≡◌, ℕ, ◌-◌, ◌<◌, ◌≤◌, Bool, true, false, not, ◌&&◌, List, [], ◌∷◌, length, map, Some, None, inl, inr, refl, sym, ap, ◌∙◌, arith, subst}
 use Rattle.std.specs.Prelude.{All, nat_eq, slice_get, unwrap_or}
 use Rattle.std.proofs.lemmas.Bool.{cases_eq, cases_lt, eqb-true}
 use Rattle.std.proofs.lemmas.List.Elements.{All-get_or, recursion_from_All}
@@ -10,30 +10,22 @@ use Rattle.ed_graph.specs.Standing.{IsLevelled, height_in, sources_in}
 use Rattle.ed_layers.specs.Cells.{cells_within}
 use Rattle.ed_layers.specs.Graph.{height}
 use Rattle.ed_layers.specs.Order.{fails_to_cover, is_inclusive}
-use Rattle.ed_layers.specs.Records.{Record, base, elision, members_of, projection, sources_of, version_in}
+use Rattle.ed_layers.specs.Records.{Record, base, elision, is_carrier, members_of, sources_of, version_in}
 use Rattle.ed_risen.proofs.Covering.{each_covers}
 use Rattle.ed_risen.proofs.FoundedLemmas.{each_version, founded_record, same_cells}
-use Rattle.ed_risen.proofs.Limits.{plain_inside}
+use Rattle.ed_risen.proofs.ShownRuns.{stands}
 use Rattle.ed_risen.proofs.Lists.{get_past}
 use Rattle.ed_risen.specs.Founded.{Founded}
 use Rattle.ed_risen.specs.Rising.{EndsIn, Inside, IsSettled, StandInside}
-use Rattle.ed_sending.proofs.Carriers.NewText.{AreFitting}
-use Rattle.ed_sending.proofs.Groups.AcceptedEdit.{IsReady, deep_of}
-use Rattle.ed_sending.proofs.Groups.Arrivals.{AreLower}
+use Rattle.ed_sending.proofs.Groups.ReadyStocks.{deep_of}
 use Rattle.ed_sending.proofs.Groups.GivenCarrier.{in_order_of}
-use Rattle.ed_sending.proofs.Groups.OneWay.{NamesLower}
 use Rattle.ed_sending.proofs.Groups.RecordTexts.{unit_in}
-use Rattle.ed_sending.proofs.Groups.SendingOrder.{height_now}
 use Rattle.ed_sending.proofs.Groups.Turns.{records_in}
-use Rattle.ed_sending.proofs.Lists.SortedParts.{Each}
+use Rattle.ed_sending.proofs.Lists.SortedParts.{Each, each_got}
 use Rattle.ed_stock.specs.Stock.{Stock, buffer, count, now, record_at, record_now, sources_now, text_now}
+use Rattle.ed_sending.specs.Ready.{AreFitting, IsReady, NamesLower, height_now}
 
 -- ---- lists
-
-each_got : {X : Type 0} (P : X → Type 0) (xs : List X) (k : ℕ) (x : X) → Each P xs → slice_get xs k ≡ Some x → P x
-each_got P [] k x a is = absurd (let e : None ≡ Some x = is in cc)
-each_got P (y ∷ ys) zero x a is = let e : y ≡ x = cc in subst P e a.0
-each_got P (y ∷ ys) (suc k) x a is = each_got P ys k x a.1 is
 
 each_two : (P Q : ℕ → Type 0) (xs : List ℕ) → Each P xs → Each Q xs → Each (λ x. P x × Q x) xs
 each_two P Q [] a b = tt
@@ -97,49 +89,52 @@ module _ (s : Stock) (graph : List (List ℕ)) (settled : IsSettled s) (levelled
   pub names_lower_of : NamesLower s
   names_lower_of c there = low_names c there
 
-  module _ (c : ℕ) (members : List Member) (from : List (ℕ × ℕ)) (is : record_now s c ≡ projection members from) where
-    there_of : c < count s
-    there_of = elim (cases_lt c (count s)) [
-      | inl below ↦ below
-      | inr past ↦ absurd (let e : base [] 0 ≡ projection members from = sym (past_record s c past) ∙ is in cc)
+  module _ (c : ℕ) where
+    -- the members of each record stand inside their sources
+    stand_now : StandInside s (sources_of (record_now s c)) (members_of (record_now s c))
+    stand_now = elim (cases_lt c (count s)) [
+      | inl below ↦ stands s (record_now s c) (settled.inside c below)
+      | inr past ↦ subst (λ (r : Record). StandInside s (sources_of r) (members_of r)) (sym (past_record s c past)) (stands s (base [] 0) tt)
     ]
 
-    stand_of : StandInside s from members
-    stand_of = subst (Inside s) is (settled.inside c there_of)
+    module _ (k b : ℕ) (x : Span) (mode : SpanMode) (at : slice_get (members_of (record_now s c)) k ≡ Some (Member.Tracked b x mode)) where
+      there_of : c < count s
+      there_of = elim (cases_lt c (count s)) [
+        | inl below ↦ below
+        | inr past ↦ absurd (let e : None ≡ Some (Member.Tracked b x mode) = sym (ap (λ (r : Record). slice_get (members_of r) k) (past_record s c past)) ∙ at in cc)
+      ]
 
-    module _ (k b : ℕ) (x : Span) (mode : SpanMode) (at : slice_get members k ≡ Some (Member.Tracked b x mode)) where
-      named_now : version_in from b ≡ Some (now s b)
-      named_now = (each_got (EndsIn s from) members k (Member.Tracked b x mode) stand_of.ends at).0
+      named_now : version_in (sources_of (record_now s c)) b ≡ Some (now s b)
+      named_now = (each_got (EndsIn s (sources_of (record_now s c))) (members_of (record_now s c)) k (Member.Tracked b x mode) stand_now.ends at).0
 
       lower_of : StandsLower c b
-      lower_of = each_version (λ v. StandsLower c v.0) from b (now s b) (subst (λ (r : Record). Each (λ v. StandsLower c v.0) (sources_of r)) is (low_names c there_of)) named_now
+      lower_of = each_version (λ v. StandsLower c v.0) (sources_of (record_now s c)) b (now s b) (low_names c there_of) named_now
 
       founded_of : Founded (record_at s) 8 (b, now s b)
       founded_of =
           let some : 0 < length (buffer s c).records = settled.some c there_of in
           let r : (r : Record) × (record_at s c (now s c) ≡ Some r) × Each (Founded (record_at s) 8) (sources_of r) = founded_record (record_at s) 8 (c, now s c) (settled.founded c (now s c) (omega arith)) in
-          let e : r.0 ≡ projection members from = sym (ap (λ o. unwrap_or o (base [] 0)) r.1) ∙ is in
-          each_version (Founded (record_at s) 8) from b (now s b) (subst (λ (q : Record). Each (Founded (record_at s) 8) (sources_of q)) e r.2) named_now
+          let e : r.0 ≡ record_now s c = sym (ap (λ o. unwrap_or o (base [] 0)) r.1) in
+          each_version (Founded (record_at s) 8) (sources_of (record_now s c)) b (now s b) (subst (λ (q : Record). Each (Founded (record_at s) 8) (sources_of q)) e r.2) named_now
 
       cells_of : map unit_in (cells_within (record_at s) 8 b (now s b)) ≡ text_now s b
       cells_of = ap (map unit_in) (same_cells (record_at s) (record_at s) (λ a v r h. h) 8 9 (b, now s b) (omega arith) founded_of)
 
-  are_lower_of : AreLower s
-  are_lower_of c k b x mode at = by (record_now s c) refl
-    where
-      by : (r : Record) → record_now s c ≡ r → height_now s b < height_now s c
-      by (base text n) is = absurd (let e : None ≡ Some (Member.Tracked b x mode) = sym (ap (λ (r : Record). slice_get (members_of r) k) is) ∙ at in cc)
-      by (projection members from) is = (lower_of c members from is k b x mode (sym (ap (λ (r : Record). slice_get (members_of r) k) is) ∙ at)).1
-      by (elision flags source version) is = elim (cases_lt c (count s)) [
-        | inl below ↦ absurd (subst (Inside s) is (settled.inside c below))
-        | inr past ↦ absurd (let e : base [] 0 ≡ elision flags source version = sym (past_record s c past) ∙ is in cc)
-      ]
+  -- an elision buffer says of each unit of its source whether it is hidden
+  hides_of : (c source version : ℕ) (flags : List Bool) → record_now s c ≡ elision flags source version → (source < count s) × (height_now s source < height_now s c) × (length flags ≡ length (text_now s source))
+  hides_of c source version flags is = elim (cases_lt c (count s)) [
+    | inl below ↦ (
+        let inside : Inside s (elision flags source version) = subst (Inside s) is (settled.inside c below) in
+        let low : StandsLower c source = (subst (λ (r : Record). Each (λ v. StandsLower c v.0) (sources_of r)) is (low_names c below)).0 in
+        (low.0, low.1, inside.1))
+    | inr past ↦ absurd (let e : false ≡ true = sym (ap is_carrier (past_record s c past)) ∙ ap is_carrier is in cc)
+  ]
 
   pub ready_of : IsReady s
   ready_of = record {
-    lower = are_lower_of;
-    plain = λ c there. plain_inside s (record_now s c) (settled.inside c there);
-    named = λ c members from is k b x mode at. (named_now c members from is k b x mode at, (lower_of c members from is k b x mode at).0);
-    fitting = λ c members from is. fitting_of s from members (stand_of c members from is);
-    deep = λ c members from is. deep_of s c members from is (λ k b x mode at. (named_now c members from is k b x mode at, cells_of c members from is k b x mode at));
+    lower = λ c k b x mode at. (lower_of c k b x mode at).1;
+    named = λ c k b x mode at. (named_now c k b x mode at, (lower_of c k b x mode at).0);
+    fitting = λ c. fitting_of s (sources_of (record_now s c)) (members_of (record_now s c)) (stand_now c);
+    deep = λ c carries. deep_of s c (record_now s c) refl carries (λ k b x mode at. (named_now c k b x mode at, cells_of c k b x mode at));
+    hides = hides_of;
   }

@@ -22,13 +22,15 @@ use Rattle.ed_sending.proofs.Carriers.CarrierText.{starts_of, AllCutsRise}
 use Rattle.ed_sending.proofs.Carriers.MemberChunks.{joined}
 use Rattle.ed_sending.proofs.Members.OwnPieces.{lifted}
 use Rattle.ed_sending.proofs.Carriers.MemberParts.{still_shown}
-use Rattle.ed_sending.proofs.Carriers.NewText.{StepsBy, HaveStepped, AreFitting, SparesLiterals, units_of, shown_after, all_shown_after, old_parts, parts_text, part_len, text_of, carrier_steps}
+use Rattle.ed_sending.proofs.Carriers.NewText.{StepsBy, HaveStepped, SparesLiterals, shown_after, all_shown_after, old_parts, parts_text, part_len, carrier_steps}
 use Rattle.ed_sending.proofs.Carriers.ProjectionStep.{projection_steps}
+use Rattle.ed_sending.specs.Ready.{AreFitting}
+use Rattle.ed_layers.specs.Texts.{member_text, text_over}
 
 -- ---- no source stepped
 
 module _ (carrier : ℕ) (members : List Member) (resolver : Option CutRules) (cs : List Component) (texts : ℕ → List ℕ) (steps : ℕ → Option SourceStep) (stepped : HaveStepped carrier members resolver cs texts steps) (fitting : AreFitting members texts) (still : (k b : ℕ) (x : Span) (mode : SpanMode) → slice_get members k ≡ Some (Member.Tracked b x mode) → steps b ≡ None) where
-  one_still : (k : ℕ) (m : Member) → slice_get members k ≡ Some m → shown_after carrier members resolver cs texts steps k m ≡ old_units (starts_of members k) (units_of texts m)
+  one_still : (k : ℕ) (m : Member) → slice_get members k ≡ Some m → shown_after carrier members resolver cs texts steps k m ≡ old_units (starts_of members k) (member_text texts m)
   one_still k (Member.Literal units) here = refl
   one_still k (Member.Tracked source x mode) here = by_step (steps source) refl (still k source x mode here) (stepped k source x mode here)
     where
@@ -77,14 +79,14 @@ module _ (carrier : ℕ) (members : List Member) (resolver : Option CutRules) (c
   all_still k (m ∷ ms) same =
       let here : slice_get members k ≡ Some m = ap (slice_get members) (let e : k ≡ k + 0 = omega arith in e) ∙ sym (same 0) in
       ap (λ z. z ++ all_shown_after carrier members resolver cs texts steps (k + 1) ms) (one_still k m here)
-      ∙ ap (λ z. old_units (starts_of members k) (units_of texts m) ++ z) (all_still (k + 1) ms (λ d. same (suc d) ∙ ap (slice_get members) (let e : k + suc d ≡ (k + 1) + d = omega arith in e)))
+      ∙ ap (λ z. old_units (starts_of members k) (member_text texts m) ++ z) (all_still (k + 1) ms (λ d. same (suc d) ∙ ap (slice_get members) (let e : k + suc d ≡ (k + 1) + d = omega arith in e)))
 
 -- ---- by height
 
 -- what arrived at each buffer, its old text, and its step
 module _ (heights : ℕ → ℕ) (arrives : ℕ → List Piece) (texts : ℕ → List ℕ) (steps : ℕ → Option SourceStep) (IsBelow : ℕ → Type 0) where
   abbrev pub parts_at : ℕ → List Member → List Component
-  parts_at b members = arrived (arrives b) (length (text_of texts members))
+  parts_at b members = arrived (arrives b) (length (text_over texts members))
 
   -- a projection, all of whose sources get from it alone
   pub record Carries (b : ℕ) : Type 0 where
@@ -92,7 +94,7 @@ module _ (heights : ℕ → ℕ) (arrives : ℕ → List Piece) (texts : ℕ →
     pub resolver : Option CutRules
     pub from : List (ℕ × ℕ)
     pub to : List (ℕ × ℕ)
-    pub text : texts b ≡ text_of texts members
+    pub text : texts b ≡ text_over texts members
     pub fitting : AreFitting members texts
     pub spares : SparesLiterals members (parts_at b members)
     pub cuts : AllCutsRise members resolver (parts_at b members)
@@ -110,19 +112,23 @@ module _ (heights : ℕ → ℕ) (arrives : ℕ → List Piece) (texts : ℕ →
       subst (λ (o : Option SourceStep). StepsBy o (pieces_at (sent b c.members c.resolver (parts_at b c.members)) s) (texts s)) (sym (c.sees k s x mode there))
       (subst (λ (ps : List Piece). StepsBy (steps s) ps (texts s)) h.2 (lower s h.0 h.1))
 
-  -- Each buffer below steps by what arrived there, if each base does.
-  pub steps_by_height : ((b : ℕ) → IsBelow b → StepsBy (steps b) (arrives b) (texts b) ⊎ Carries b) → (n b : ℕ) → heights b < n → IsBelow b → StepsBy (steps b) (arrives b) (texts b)
+  -- the lower buffers that are below step by what arrived there
+  abbrev pub BelowStep : ℕ → Type 0
+  BelowStep b = (s : ℕ) → heights s < heights b → IsBelow s → StepsBy (steps s) (arrives s) (texts s)
+
+  pub carries_steps : (b : ℕ) → Carries b → BelowStep b → StepsBy (steps b) (arrives b) (texts b)
+  carries_steps b c below =
+      let stepped : HaveStepped b c.members c.resolver (parts_at b c.members) texts c.seen = have_stepped b c below in
+      subst (λ (t : List ℕ). StepsBy (steps b) (arrives b) t) (sym c.text) (elim c.stepped [
+        | inl some ↦ subst (λ (o : Option SourceStep). StepsBy o (arrives b) (text_over texts c.members)) (sym some) (projection_steps b c.members c.resolver (arrives b) texts c.seen c.from c.to stepped c.fitting c.spares c.cuts)
+        | inr none ↦ subst (λ (o : Option SourceStep). StepsBy o (arrives b) (text_over texts c.members)) (sym none.0) (
+            let here : (d : ℕ) → slice_get c.members d ≡ slice_get c.members (0 + d) = λ d. ap (slice_get c.members) (let e : d ≡ 0 + d = omega arith in e) in
+            sym (carrier_steps b c.members c.resolver (arrives b) texts c.seen stepped c.fitting c.spares c.cuts)
+            ∙ all_still b c.members c.resolver (parts_at b c.members) texts c.seen stepped c.fitting none.1 0 c.members here
+            ∙ parts_text texts c.members 0 c.members here (λ j m at. part_len b c.members c.resolver (parts_at b c.members) texts c.seen stepped c.fitting c.spares j m at))
+      ])
+
+  -- Each buffer below steps by what arrived there, if it does wherever the lower ones do.
+  pub steps_by_height : ((b : ℕ) → IsBelow b → BelowStep b → StepsBy (steps b) (arrives b) (texts b)) → (n b : ℕ) → heights b < n → IsBelow b → StepsBy (steps b) (arrives b) (texts b)
   steps_by_height each zero b low below = absurd (omega arith)
-  steps_by_height each (suc n) b low below = elim (each b below) [
-    | inl base ↦ base
-    | inr c ↦ (
-        let stepped : HaveStepped b c.members c.resolver (parts_at b c.members) texts c.seen = have_stepped b c (λ s lower is. steps_by_height each n s (omega (arith, lower)) is) in
-        subst (λ (t : List ℕ). StepsBy (steps b) (arrives b) t) (sym c.text) (elim c.stepped [
-          | inl some ↦ subst (λ (o : Option SourceStep). StepsBy o (arrives b) (text_of texts c.members)) (sym some) (projection_steps b c.members c.resolver (arrives b) texts c.seen c.from c.to stepped c.fitting c.spares c.cuts)
-          | inr none ↦ subst (λ (o : Option SourceStep). StepsBy o (arrives b) (text_of texts c.members)) (sym none.0) (
-              let here : (d : ℕ) → slice_get c.members d ≡ slice_get c.members (0 + d) = λ d. ap (slice_get c.members) (let e : d ≡ 0 + d = omega arith in e) in
-              sym (carrier_steps b c.members c.resolver (arrives b) texts c.seen stepped c.fitting c.spares c.cuts)
-              ∙ all_still b c.members c.resolver (parts_at b c.members) texts c.seen stepped c.fitting none.1 0 c.members here
-              ∙ parts_text texts c.members 0 c.members here (λ j m at. part_len b c.members c.resolver (parts_at b c.members) texts c.seen stepped c.fitting c.spares j m at))
-        ]))
-  ]
+  steps_by_height each (suc n) b low below = each b below (λ s lower is. steps_by_height each n s (omega (arith, lower)) is)

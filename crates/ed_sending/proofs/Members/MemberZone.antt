@@ -20,7 +20,8 @@ use Rattle.ed_sending.proofs.Texts.PiecesAtGap.{put_none}
 use Rattle.ed_sending.proofs.Texts.FullText.{Full, old_units, put_in, full_text, held_by, IsStepTo}
 use Rattle.ed_sending.proofs.Lists.Weaves.{woven_parts}
 use Rattle.ed_sending.proofs.Members.HeldSlice.{source_slice}
-use Rattle.ed_sending.proofs.Members.SourceParts.{IsFor, AreApart, is_first, is_of, earlier_of, own_of, later_of, puts_are, earlier_puts, own_before, own_after, later_puts, earlier_other, of_is, own_each, later_each, Own, Later, put_each, woven_each, old_each, old_append, length_old}
+use Rattle.ed_sending.proofs.Members.SourceParts.{IsFor, is_first, is_of, earlier_of, own_of, later_of, puts_are, earlier_puts, own_before, own_after, later_puts, earlier_other, of_is, own_each, later_each, Own, Later, put_each, woven_each, old_each, old_append, length_old}
+use Rattle.ed_sending.specs.Ready.{AreApart}
 
 -- the old units of a member with its own pieces done
 abbrev pub zone_of : ℕ → List Member → ℕ → Span → List Piece → List ℕ → List Full

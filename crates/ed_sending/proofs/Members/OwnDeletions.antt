@@ -17,11 +17,11 @@ use Rattle.ed_layers.specs.Pieces.{Component, gone_at}
 use Rattle.ed_layers.specs.Sending.{Target, target_at, targets, range_of, share, Run, trail_runs, piece_of, target_pieces, sent}
 use Rattle.ed_stock.specs.Landing.{pieces_at}
 use Rattle.ed_sending.proofs.Lists.SortedParts.{Each}
-use Rattle.ed_sending.proofs.Members.SourceParts.{AreApart}
 use Rattle.ed_sending.proofs.Texts.GapOrder.{in_order_cases}
 use Rattle.ed_sending.proofs.Members.Targets.{rule_for, IsTarget, all_targets}
 use Rattle.ed_sending.proofs.Carriers.CarrierText.{taken_of}
 use Rattle.ed_sending.proofs.Carriers.SentPieces.{target_part, part_to, pieces_sent, numbered_each}
+use Rattle.ed_sending.specs.Ready.{AreApart}
 
 any_flat : {X Y : Type 0} (f : Y → Bool) (h : X → List Y) (xs : List X) → list_any f (flat_map h xs) ≡ list_any (λ x. list_any f (h x)) xs
 any_flat f h [] = refl

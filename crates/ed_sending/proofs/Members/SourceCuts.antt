@@ -14,9 +14,10 @@ use Rattle.ed_layers.specs.SourceStep.{ends_with}
 use Rattle.ed_sending.proofs.Lists.SortedParts.{Each, each_append, each_more, not_false}
 use Rattle.ed_sending.proofs.Texts.FullText.{Full, old_units, put_in, full_text, held_by}
 use Rattle.ed_sending.proofs.Texts.GapOrder.{Stands, stands_so}
-use Rattle.ed_sending.proofs.Members.SourceParts.{IsFor, AreApart, is_first, first_is, of_is, earlier_of, own_of, later_of, own_each, later_each, Own, Later, put_each, woven_each, old_each}
+use Rattle.ed_sending.proofs.Members.SourceParts.{IsFor, is_first, first_is, of_is, earlier_of, own_of, later_of, own_each, later_each, Own, Later, put_each, woven_each, old_each}
 use Rattle.ed_sending.proofs.Members.MemberZone.{zone_of, put_in_each, Mine, Held, earlier_part, later_part, three_parts, earlier_held, later_held, zone_lies}
 use Rattle.ed_sending.proofs.Lists.Subsequences.{Cut, cut_parts}
+use Rattle.ed_sending.specs.Ready.{AreApart}
 
 not_own : (a b : Bool) → (a || b) ≡ false → b ≡ false
 not_own true b e = absurd (let z : true ≡ false = e in cc)

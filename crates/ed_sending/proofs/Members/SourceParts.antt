@@ -10,7 +10,7 @@ use Rattle.ed_base.specs.declared.piece.Piece.{Piece}
 use Rattle.ed_base.specs.Edit.{woven}
 use Rattle.ed_base.specs.Sorting.{sorted_by}
 use Rattle.ed_base.specs.Spans.{end_of}
-use Rattle.ed_layers.specs.Order.{stands_before, in_order}
+use Rattle.ed_layers.specs.Order.{stands_before}
 use Rattle.ed_layers.specs.Pieces.{piece_before, put_at, marked_units, last_pair}
 use Rattle.ed_layers.specs.Sending.{side_at}
 use Rattle.ed_layers.specs.SourceStep.{ends_with}
@@ -18,6 +18,7 @@ use Rattle.ed_sending.proofs.Lists.SortedParts.{Each, each_append, each_more, so
 use Rattle.ed_sending.proofs.Texts.PiecesAtGap.{put_parts, put_none}
 use Rattle.ed_sending.proofs.Texts.FullText.{Full, old_units}
 use Rattle.ed_sending.proofs.Texts.GapOrder.{Stands, stands_is, stands_so, in_order_cases, stands_once, stands_chain, piece_order}
+use Rattle.ed_sending.specs.Ready.{AreApart}
 
 -- what each piece has, what is put in has
 pub put_each : (P : ℕ × List (ℕ × ℕ) → Type 0) (pieces : List Piece) (g : ℕ) → Each (λ p. (u : ℕ) → P (u, p.trail)) pieces → Each P (put_at pieces g)
@@ -71,10 +72,6 @@ pub record IsFor (carrier : ℕ) (members : List Member) (source : ℕ) (p : Pie
   pub from : bounds.start ≤ p.start
   pub to : p.start + p.len ≤ end_of bounds
   pub side : p.side ≡ side_at bounds p.start
-
--- the members on the source are in order
-abbrev pub AreApart : List Member → ℕ → Type 0
-AreApart members source = (i j : ℕ) (x y : Span) (mode mode' : SpanMode) → i ≢ j → slice_get members i ≡ Some (Member.Tracked source x mode) → slice_get members j ≡ Some (Member.Tracked source y mode') → in_order (i, x) (j, y) ≡ true
 
 abbrev bounds_in : Option Member → Span
 bounds_in None = record { start = 0; len = 0 }

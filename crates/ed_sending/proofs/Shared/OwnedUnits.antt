@@ -23,14 +23,14 @@ use Rattle.ed_stock.specs.Landing.{pieces_at}
 use Rattle.ed_sending.proofs.Lists.SortedParts.{Each, each_more}
 use Rattle.ed_sending.proofs.Texts.FullText.{Full, full_text, held_by}
 use Rattle.ed_sending.proofs.Texts.GapOrder.{Stands, stands_is, in_order_cases, stands_once}
-use Rattle.ed_sending.proofs.Members.SourceParts.{IsFor, AreApart}
+use Rattle.ed_sending.proofs.Members.SourceParts.{IsFor}
 use Rattle.ed_sending.proofs.Carriers.SentPieces.{all_for}
-use Rattle.ed_sending.proofs.Carriers.NewText.{AreFitting}
 use Rattle.ed_sending.proofs.Texts.FilteredText.{passing, full_passing}
 use Rattle.ed_sending.proofs.Lists.Subsequences.{Sub, Cut, sub_trans, sub_map, sub_filter, filter_sub, filter_map_is, cut_sub, cut_map, cut_unfilter, cut_at}
 use Rattle.ed_sending.proofs.Shared.SourceSigns.{Sign, sign_of, is_told, Comes, sign_at, signs_tell, signs_past, holds_sign, ends_at, ends_any, sub_both}
 use Rattle.ed_sending.proofs.Members.SourceCuts.{start_cut, end_cut, order_cut}
 use Rattle.ed_sending.proofs.Shared.ProjectionSigns.{AreShared}
+use Rattle.ed_sending.specs.Ready.{AreApart, AreFitting}
 
 -- ---- members on a source
 

@@ -29,11 +29,13 @@ use Rattle.ed_sending.proofs.Carriers.SentPieces.{all_for}
 use Rattle.ed_sending.proofs.Members.MemberZone.{zone_of, zone_lies, zone_filter}
 use Rattle.ed_sending.proofs.Carriers.SlotPlaces.{slot_of, slots_from, placed, where_in}
 use Rattle.ed_sending.proofs.Carriers.SlotReadings.{origin_of_slot, literal_origins, literal_trails, ends_same, map_twice, place_told, trail_told}
-use Rattle.ed_sending.proofs.Carriers.NewText.{old_parts, parts_text, HaveStepped, AreFitting, SparesLiterals, units_of, bounds_after, shown_after, all_shown_after, tracked_shows, text_of, carrier_steps}
+use Rattle.ed_sending.proofs.Carriers.NewText.{old_parts, parts_text, HaveStepped, SparesLiterals, bounds_after, shown_after, all_shown_after, tracked_shows, carrier_steps}
 use Rattle.ed_sending.proofs.Carriers.MemberChunks.{joined}
 use Rattle.ed_sending.proofs.Texts.FilteredText.{passing}
 use Rattle.ed_sending.proofs.Lists.Subsequences.{Sub, sub_append, filter_sub}
 use Rattle.ed_sending.proofs.Shared.SourceSigns.{Sign, sign_of, is_told, Comes, sign_at, risen, ends_at, member_among, risen_lifted, map_alike}
+use Rattle.ed_sending.specs.Ready.{AreFitting}
+use Rattle.ed_layers.specs.Texts.{member_text, text_over}
 
 -- the step that leads to a text
 abbrev pub made : List Full → SourceStep
@@ -189,18 +191,18 @@ length_map f (x ∷ xs) = ap (λ n. suc n) (length_map f xs)
 
 -- what is kept or its own
 pub slots_among : (carrier : ℕ) (members : List Member) (resolver : Option CutRules) (pieces : List Piece) (texts : ℕ → List ℕ) (steps : ℕ → Option SourceStep) (arrives : ℕ → List Piece) →
-    AreShared carrier members resolver (arrived pieces (length (text_of texts members))) texts steps arrives → AreFitting members texts → SparesLiterals members (arrived pieces (length (text_of texts members))) → AllCutsRise members resolver (arrived pieces (length (text_of texts members))) →
-    Sub (filter is_told (map (sign_slot carrier steps members) (slots_from 0 (members_after carrier steps members)))) (map sign_of (full_text pieces (text_of texts members)))
+    AreShared carrier members resolver (arrived pieces (length (text_over texts members))) texts steps arrives → AreFitting members texts → SparesLiterals members (arrived pieces (length (text_over texts members))) → AllCutsRise members resolver (arrived pieces (length (text_over texts members))) →
+    Sub (filter is_told (map (sign_slot carrier steps members) (slots_from 0 (members_after carrier steps members)))) (map sign_of (full_text pieces (text_over texts members)))
 slots_among carrier members resolver pieces texts steps arrives shared fitting spares cuts =
-    let cs : List Component = arrived pieces (length (text_of texts members)) in
+    let cs : List Component = arrived pieces (length (text_over texts members)) in
     subst (λ z. Sub (filter is_told (map (sign_slot carrier steps members) (slots_from 0 (members_after carrier steps members)))) (map sign_of z))
     (carrier_steps carrier members resolver pieces texts (alone carrier members resolver cs texts steps arrives shared fitting spares) (have carrier members resolver cs texts steps arrives shared fitting spares) fitting spares cuts)
     (all_among carrier members resolver cs texts steps arrives shared fitting spares 0 [] members refl refl)
 
 -- The step of a projection, beside the pieces that arrived there.
 pub projection_comes : (carrier : ℕ) (members : List Member) (resolver : Option CutRules) (pieces : List Piece) (texts : ℕ → List ℕ) (steps : ℕ → Option SourceStep) (arrives : ℕ → List Piece) (from to : List (ℕ × ℕ)) →
-    AreShared carrier members resolver (arrived pieces (length (text_of texts members))) texts steps arrives → AreFitting members texts → SparesLiterals members (arrived pieces (length (text_of texts members))) → AllCutsRise members resolver (arrived pieces (length (text_of texts members))) →
-    Comes (Some (record { step = carrier_step all_stay steps (projection members from) (projection (members_after carrier steps members) to); trails = record_trails carrier false steps (projection (members_after carrier steps members) to) })) pieces (text_of texts members)
+    AreShared carrier members resolver (arrived pieces (length (text_over texts members))) texts steps arrives → AreFitting members texts → SparesLiterals members (arrived pieces (length (text_over texts members))) → AllCutsRise members resolver (arrived pieces (length (text_over texts members))) →
+    Comes (Some (record { step = carrier_step all_stay steps (projection members from) (projection (members_after carrier steps members) to); trails = record_trails carrier false steps (projection (members_after carrier steps members) to) })) pieces (text_over texts members)
 unfolding carrier_step
 projection_comes carrier members resolver pieces texts steps arrives from to shared fitting spares cuts =
     let new : List Slot = slots_from 0 (members_after carrier steps members) in
@@ -228,13 +230,13 @@ risen_old carrier k a d x (u ∷ us) within =
     ∙ ap (λ z. (Some (a + d), []) ∷ z) (risen_old carrier k a (d + 1) x us (omega arith) ∙ ap (λ n. map sign_of (old_units n us)) (sym f))
 
 module _ (carrier : ℕ) (members : List Member) (texts : ℕ → List ℕ) (steps : ℕ → Option SourceStep) (fitting : AreFitting members texts) (still : (k b : ℕ) (x : Span) (mode : SpanMode) → slice_get members k ≡ Some (Member.Tracked b x mode) → steps b ≡ None) where
-  still_len : (k : ℕ) (m : Member) → slice_get members k ≡ Some m → length (units_of texts m) ≡ member_len m
+  still_len : (k : ℕ) (m : Member) → slice_get members k ≡ Some m → length (member_text texts m) ≡ member_len m
   still_len k (Member.Literal units) here = refl
   still_len k (Member.Tracked source x mode) here =
       let within : end_of x ≤ length (texts source) = fitting.inside k source x mode here in
       omega (arith, length-take (x.start + x.len - x.start) (drop x.start (texts source)), length-drop x.start (texts source))
 
-  one_old : (before : List Member) (m : Member) (after : List Member) → members ≡ before ++ m ∷ after → map (sign_slot carrier steps members) (member_slots (length before, member_after carrier steps members (length before, m))) ≡ map sign_of (old_units (starts_of members (length before)) (units_of texts m))
+  one_old : (before : List Member) (m : Member) (after : List Member) → members ≡ before ++ m ∷ after → map (sign_slot carrier steps members) (member_slots (length before, member_after carrier steps members (length before, m))) ≡ map sign_of (old_units (starts_of members (length before)) (member_text texts m))
   one_old before (Member.Literal units) after is =
       let start : starts_of members (length before) ≡ members_len before = ap (λ ms. sum_by member_len (take (length before) ms)) is ∙ ap (sum_by member_len) (take-append_seam before (Member.Literal units ∷ after)) in
       let slots : List Slot = member_slots (length before, Member.Literal units) in
@@ -268,20 +270,20 @@ module _ (carrier : ℕ) (members : List Member) (texts : ℕ → List ℕ) (ste
       let here : List Slot = member_slots (k, member_after carrier steps members (k, m)) in
       let later : List Slot = slots_from (k + 1) (map (member_after carrier steps members) (enumerate_from (k + 1) ms)) in
       let S : Slot → Sign = sign_slot carrier steps members in
-      let one : map S here ≡ map sign_of (old_units (starts_of members k) (units_of texts m)) =
-      subst (λ z. map S (member_slots (z, member_after carrier steps members (z, m))) ≡ map sign_of (old_units (starts_of members z) (units_of texts m))) (sym at) (one_old before m ms is) in
+      let one : map S here ≡ map sign_of (old_units (starts_of members k) (member_text texts m)) =
+      subst (λ z. map S (member_slots (z, member_after carrier steps members (z, m))) ≡ map sign_of (old_units (starts_of members z) (member_text texts m))) (sym at) (one_old before m ms is) in
       map-append S here later
       ∙ ap (λ z. z ++ map S later) one
-      ∙ ap (λ z. map sign_of (old_units (starts_of members k) (units_of texts m)) ++ z) (all_old (k + 1) (before ++ m ∷ []) ms (is ∙ sym (append_assoc before (m ∷ []) ms)) (omega (arith, at, length-append before (m ∷ []))))
-      ∙ sym (map-append sign_of (old_units (starts_of members k) (units_of texts m)) (joined (old_parts texts members (k + 1) ms)))
+      ∙ ap (λ z. map sign_of (old_units (starts_of members k) (member_text texts m)) ++ z) (all_old (k + 1) (before ++ m ∷ []) ms (is ∙ sym (append_assoc before (m ∷ []) ms)) (omega (arith, at, length-append before (m ∷ []))))
+      ∙ sym (map-append sign_of (old_units (starts_of members k) (member_text texts m)) (joined (old_parts texts members (k + 1) ms)))
 
 -- A projection none of whose sources stepped doesn't step either.
 pub still_comes : (carrier : ℕ) (members : List Member) (resolver : Option CutRules) (pieces : List Piece) (texts : ℕ → List ℕ) (steps : ℕ → Option SourceStep) (arrives : ℕ → List Piece) →
-    AreShared carrier members resolver (arrived pieces (length (text_of texts members))) texts steps arrives → AreFitting members texts → SparesLiterals members (arrived pieces (length (text_of texts members))) → AllCutsRise members resolver (arrived pieces (length (text_of texts members))) →
+    AreShared carrier members resolver (arrived pieces (length (text_over texts members))) texts steps arrives → AreFitting members texts → SparesLiterals members (arrived pieces (length (text_over texts members))) → AllCutsRise members resolver (arrived pieces (length (text_over texts members))) →
     ((k b : ℕ) (x : Span) (mode : SpanMode) → slice_get members k ≡ Some (Member.Tracked b x mode) → steps b ≡ None) →
-    Comes None pieces (text_of texts members)
+    Comes None pieces (text_over texts members)
 still_comes carrier members resolver pieces texts steps arrives shared fitting spares cuts still =
-    let text : List ℕ = text_of texts members in
+    let text : List ℕ = text_over texts members in
     let same : map (sign_slot carrier steps members) (slots_from 0 (members_after carrier steps members)) ≡ map sign_of (old_units 0 text) =
     all_old carrier members texts steps fitting still 0 [] members refl refl
     ∙ ap (λ z. map sign_of z) (parts_text texts members 0 members (λ d. ap (slice_get members) (let e : d ≡ 0 + d = omega arith in e)) (still_len carrier members texts steps fitting still)) in

@@ -15,16 +15,18 @@ use Rattle.ed_layers.specs.Sending.{sent}
 use Rattle.ed_layers.specs.SourceStep.{SourceStep}
 use Rattle.ed_stock.specs.Landing.{pieces_at}
 use Rattle.ed_sending.proofs.Carriers.CarrierText.{AllCutsRise}
-use Rattle.ed_sending.proofs.Carriers.NewText.{AreFitting, SparesLiterals, text_of}
+use Rattle.ed_sending.proofs.Carriers.NewText.{SparesLiterals}
 use Rattle.ed_sending.proofs.Texts.FilteredText.{passing}
 use Rattle.ed_sending.proofs.Shared.SourceSigns.{Comes, ends_at}
 use Rattle.ed_sending.proofs.Shared.ProjectionSigns.{AreShared, projection_comes, still_comes}
 use Rattle.ed_sending.proofs.Shared.OwnedUnits.{own_inside, own_in_order}
+use Rattle.ed_sending.specs.Ready.{AreFitting}
+use Rattle.ed_layers.specs.Texts.{text_over}
 
 -- what arrived at each buffer, its old text, and its step
 module _ (heights : ℕ → ℕ) (arrives : ℕ → List Piece) (texts : ℕ → List ℕ) (steps : ℕ → Option SourceStep) (IsThere : ℕ → Type 0) where
   abbrev pub given_at : ℕ → List Member → List Component
-  given_at b members = arrived (arrives b) (length (text_of texts members))
+  given_at b members = arrived (arrives b) (length (text_over texts members))
 
   -- a projection: each source is lower, and gets from it what it sends, among what others send
   pub record Passes (b : ℕ) : Type 0 where
@@ -32,7 +34,7 @@ module _ (heights : ℕ → ℕ) (arrives : ℕ → List Piece) (texts : ℕ →
     pub resolver : Option CutRules
     pub from : List (ℕ × ℕ)
     pub to : List (ℕ × ℕ)
-    pub text : texts b ≡ text_of texts members
+    pub text : texts b ≡ text_over texts members
     pub fitting : AreFitting members texts
     pub spares : SparesLiterals members (given_at b members)
     pub cuts : AllCutsRise members resolver (given_at b members)
@@ -55,8 +57,8 @@ module _ (heights : ℕ → ℕ) (arrives : ℕ → List Piece) (texts : ℕ →
 
   pub passes_comes : (b : ℕ) → Passes b → BelowCome b → Comes (steps b) (arrives b) (texts b)
   passes_comes b c below = subst (λ (t : List ℕ). Comes (steps b) (arrives b) t) (sym c.text) (elim c.stepped [
-    | inl some ↦ subst (λ (o : Option SourceStep). Comes o (arrives b) (text_of texts c.members)) (sym some) (projection_comes b c.members c.resolver (arrives b) texts c.seen arrives c.from c.to (passes_shared b c below) c.fitting c.spares c.cuts)
-    | inr none ↦ subst (λ (o : Option SourceStep). Comes o (arrives b) (text_of texts c.members)) (sym none.0) (still_comes b c.members c.resolver (arrives b) texts c.seen arrives (passes_shared b c below) c.fitting c.spares c.cuts none.1)
+    | inl some ↦ subst (λ (o : Option SourceStep). Comes o (arrives b) (text_over texts c.members)) (sym some) (projection_comes b c.members c.resolver (arrives b) texts c.seen arrives c.from c.to (passes_shared b c below) c.fitting c.spares c.cuts)
+    | inr none ↦ subst (λ (o : Option SourceStep). Comes o (arrives b) (text_over texts c.members)) (sym none.0) (still_comes b c.members c.resolver (arrives b) texts c.seen arrives (passes_shared b c below) c.fitting c.spares c.cuts none.1)
   ])
 
   -- each comes, if it does wherever the lower ones do

@@ -1,8 +1,8 @@
-use Rattle.std.proofs.Common.{◌≡◌, ◌+◌, ◌<◌, ◌≤◌, ◌^◌, ℕ, All, List, [], length, map, Some, Ok, Err, refl, sym, ap, ◌∙◌, subst, arith, slice_get}
+use Rattle.std.proofs.Common.{◌≡◌, true, false, ◌+◌, ◌<◌, ◌≤◌, ◌^◌, ℕ, All, List, [], length, map, Some, Ok, Err, refl, sym, ap, ◌∙◌, subst, arith, slice_get}
 use Rattle.ed_base.specs.declared.Member.{Member}
 use Rattle.ed_base.specs.declared.Which.{Which}
 use Rattle.ed_graph.specs.Standing.{IsLevelled, linked}
-use Rattle.ed_layers.specs.Records.{members_len}
+use Rattle.ed_layers.specs.Records.{Record, is_carrier, is_elision, members_len}
 use Rattle.ed_members.specs.Faults.{first_fault, len_in}
 use Rattle.ed_project.specs.Texts.{HasSource, no_steps}
 use Rattle.ed_stock.specs.Limits.{stock_limits}
@@ -22,23 +22,37 @@ use Rattle.ed_climb.proofs.KeptNumbers.{held_len, not_passed}
 use Rattle.ed_group.proofs.Begins.{can_respan, handed_on, has_begun, long_refused, members_are, there}
 use Rattle.ed_group.proofs.Projected.{have_all, refuses_memory, snaps_held, sources_within}
 use Rattle.ed_group.proofs.Respanned.{all_lie, limits_left, members_refused, shown_apart, shown_cover, sources_refused}
-use Rattle.ed_climb.proofs.Snapshots.{snaps}
+use Rattle.ed_climb.proofs.Snapshots.{held_record, snaps}
 use Rattle.ed_group.proofs.spanning.begun.Goals as goal
 
-pub members_with-requires : goal.members_with-requires
-members_with-requires c =
+pub members_with-requires-clause-carrier : goal.members_with-requires-clause-carrier
+members_with-requires-clause-carrier c =
     let kept : IsKept (map known c.args.buffers.now) c.args.graph.now c.requires.kept.0 = c.requires.kept.1 in
-    let in_stock : c.args.buffer < count (stock c.args.buffers.now) = there c.args.buffers.now c.args.graph.now c.requires.kept.0 kept c.args.buffer c.requires.there c.requires.projection in
+    let in_stock : c.args.buffer < count (stock c.args.buffers.now) = there c.args.buffers.now c.args.graph.now c.requires.kept.0 kept c.args.buffer c.requires.there c.requires.carrier in
     let held : slice_get c.args.buffers.now c.args.buffer ≡ Some c.index-all-buffer.result = got c.args.buffers.now c.args.buffers.now c.args.buffer c.buffer.inside.0 c.index-all-buffer.result refl c.buffer.view_is in_stock c.index-all-buffer.is in
-    let same : members_now (stock c.args.buffers.now) c.args.buffer ≡ held_members c.index-all-buffer.result = members_are c.args.buffers.now c.args.graph.now c.requires.kept.0 kept c.args.buffer c.requires.there c.requires.projection c.index-all-buffer.result held in
+    subst (λ (x : Record). is_carrier x ≡ true) (held_record c.args.buffers.now c.args.buffer c.index-all-buffer.result held) c.requires.carrier
+
+pub members_with-requires-clause-plain : goal.members_with-requires-clause-plain
+members_with-requires-clause-plain c =
+    let kept : IsKept (map known c.args.buffers.now) c.args.graph.now c.requires.kept.0 = c.requires.kept.1 in
+    let in_stock : c.args.buffer < count (stock c.args.buffers.now) = there c.args.buffers.now c.args.graph.now c.requires.kept.0 kept c.args.buffer c.requires.there c.requires.carrier in
+    let held : slice_get c.args.buffers.now c.args.buffer ≡ Some c.index-all-buffer.result = got c.args.buffers.now c.args.buffers.now c.args.buffer c.buffer.inside.0 c.index-all-buffer.result refl c.buffer.view_is in_stock c.index-all-buffer.is in
+    subst (λ (x : Record). is_elision x ≡ false) (held_record c.args.buffers.now c.args.buffer c.index-all-buffer.result held) c.requires.plain
+
+pub members_with-requires-clause-part : goal.members_with-requires-clause-part
+members_with-requires-clause-part c =
+    let kept : IsKept (map known c.args.buffers.now) c.args.graph.now c.requires.kept.0 = c.requires.kept.1 in
+    let in_stock : c.args.buffer < count (stock c.args.buffers.now) = there c.args.buffers.now c.args.graph.now c.requires.kept.0 kept c.args.buffer c.requires.there c.requires.carrier in
+    let held : slice_get c.args.buffers.now c.args.buffer ≡ Some c.index-all-buffer.result = got c.args.buffers.now c.args.buffers.now c.args.buffer c.buffer.inside.0 c.index-all-buffer.result refl c.buffer.view_is in_stock c.index-all-buffer.is in
+    let same : members_now (stock c.args.buffers.now) c.args.buffer ≡ held_members c.index-all-buffer.result = members_are c.args.buffers.now c.args.graph.now c.requires.kept.0 kept c.args.buffer c.requires.there c.requires.carrier c.index-all-buffer.result held in
     subst (λ xs. c.args.first + c.args.removed ≤ length xs) same c.requires.part
 
 pub newest_all-requires : goal.newest_all-requires
 newest_all-requires c =
     let kept : IsKept (map known c.args.buffers.now) c.args.graph.now c.requires.kept.0 = c.requires.kept.1 in
-    let in_stock : c.args.buffer < count (stock c.args.buffers.now) = there c.args.buffers.now c.args.graph.now c.requires.kept.0 kept c.args.buffer c.requires.there c.requires.projection in
+    let in_stock : c.args.buffer < count (stock c.args.buffers.now) = there c.args.buffers.now c.args.graph.now c.requires.kept.0 kept c.args.buffer c.requires.there c.requires.carrier in
     let held : slice_get c.args.buffers.now c.args.buffer ≡ Some c.index-all-buffer.result = got c.args.buffers.now c.args.buffers.now c.args.buffer c.buffer.inside.0 c.index-all-buffer.result refl c.buffer.view_is in_stock c.index-all-buffer.is in
-    let same : members_now (stock c.args.buffers.now) c.args.buffer ≡ held_members c.index-all-buffer.result = members_are c.args.buffers.now c.args.graph.now c.requires.kept.0 kept c.args.buffer c.requires.there c.requires.projection c.index-all-buffer.result held in
+    let same : members_now (stock c.args.buffers.now) c.args.buffer ≡ held_members c.index-all-buffer.result = members_are c.args.buffers.now c.args.graph.now c.requires.kept.0 kept c.args.buffer c.requires.there c.requires.carrier c.index-all-buffer.result held in
     let shown : List Member = (spans_replaced (members_now (stock c.args.buffers.now) c.args.buffer) c.args.first c.args.removed c.args.added.items) in
     let list_is : c.in_ok-list.list.items ≡ shown = c.in_ok-list.ensures ∙ ap (λ ms. spans_replaced ms c.args.first c.args.removed c.args.added.items) (sym same) in
     let lie : All (LiesIn (stock c.args.buffers.now)) (spans_replaced (members_now (stock c.args.buffers.now) c.args.buffer) c.args.first c.args.removed c.args.added.items) = all_lie c.args.buffers.now c.args.graph.now c.requires.kept.0 kept c.order-order.ensures.levelled c.args.buffer in_stock c.args.first c.args.removed c.args.added.items c.requires.inside in
@@ -48,9 +62,9 @@ newest_all-requires c =
 pub returns-in_err-members-clause-fault : goal.returns-in_err-members-clause-fault
 returns-in_err-members-clause-fault c =
     let kept : IsKept (map known c.args.buffers.now) c.args.graph.now c.requires.kept.0 = c.requires.kept.1 in
-    let in_stock : c.args.buffer < count (stock c.args.buffers.now) = there c.args.buffers.now c.args.graph.now c.requires.kept.0 kept c.args.buffer c.requires.there c.requires.projection in
+    let in_stock : c.args.buffer < count (stock c.args.buffers.now) = there c.args.buffers.now c.args.graph.now c.requires.kept.0 kept c.args.buffer c.requires.there c.requires.carrier in
     let held : slice_get c.args.buffers.now c.args.buffer ≡ Some c.index-all-buffer.result = got c.args.buffers.now c.args.buffers.now c.args.buffer c.buffer.inside.0 c.index-all-buffer.result refl c.buffer.view_is in_stock c.index-all-buffer.is in
-    let same : members_now (stock c.args.buffers.now) c.args.buffer ≡ held_members c.index-all-buffer.result = members_are c.args.buffers.now c.args.graph.now c.requires.kept.0 kept c.args.buffer c.requires.there c.requires.projection c.index-all-buffer.result held in
+    let same : members_now (stock c.args.buffers.now) c.args.buffer ≡ held_members c.index-all-buffer.result = members_are c.args.buffers.now c.args.graph.now c.requires.kept.0 kept c.args.buffer c.requires.there c.requires.carrier c.index-all-buffer.result held in
     let shown : List Member = (spans_replaced (members_now (stock c.args.buffers.now) c.args.buffer) c.args.first c.args.removed c.args.added.items) in
     let list_is : c.in_ok-list.list.items ≡ shown = c.in_ok-list.ensures ∙ ap (λ ms. spans_replaced ms c.args.first c.args.removed c.args.added.items) (sym same) in
     let lie : All (LiesIn (stock c.args.buffers.now)) (spans_replaced (members_now (stock c.args.buffers.now) c.args.buffer) c.args.first c.args.removed c.args.added.items) = all_lie c.args.buffers.now c.args.graph.now c.requires.kept.0 kept c.order-order.ensures.levelled c.args.buffer in_stock c.args.first c.args.removed c.args.added.items c.requires.inside in
@@ -67,9 +81,9 @@ relinked-requires-clause-there c =
 pub relinked-requires-clause-sources_there : goal.relinked-requires-clause-sources_there
 relinked-requires-clause-sources_there c =
     let kept : IsKept (map known c.args.buffers.now) c.args.graph.now c.requires.kept.0 = c.requires.kept.1 in
-    let in_stock : c.args.buffer < count (stock c.args.buffers.now) = there c.args.buffers.now c.args.graph.now c.requires.kept.0 kept c.args.buffer c.requires.there c.requires.projection in
+    let in_stock : c.args.buffer < count (stock c.args.buffers.now) = there c.args.buffers.now c.args.graph.now c.requires.kept.0 kept c.args.buffer c.requires.there c.requires.carrier in
     let held : slice_get c.args.buffers.now c.args.buffer ≡ Some c.index-all-buffer.result = got c.args.buffers.now c.args.buffers.now c.args.buffer c.buffer.inside.0 c.index-all-buffer.result refl c.buffer.view_is in_stock c.index-all-buffer.is in
-    let same : members_now (stock c.args.buffers.now) c.args.buffer ≡ held_members c.index-all-buffer.result = members_are c.args.buffers.now c.args.graph.now c.requires.kept.0 kept c.args.buffer c.requires.there c.requires.projection c.index-all-buffer.result held in
+    let same : members_now (stock c.args.buffers.now) c.args.buffer ≡ held_members c.index-all-buffer.result = members_are c.args.buffers.now c.args.graph.now c.requires.kept.0 kept c.args.buffer c.requires.there c.requires.carrier c.index-all-buffer.result held in
     let shown : List Member = (spans_replaced (members_now (stock c.args.buffers.now) c.args.buffer) c.args.first c.args.removed c.args.added.items) in
     let list_is : c.in_ok-list.list.items ≡ shown = c.in_ok-list.ensures ∙ ap (λ ms. spans_replaced ms c.args.first c.args.removed c.args.added.items) (sym same) in
     let lie : All (LiesIn (stock c.args.buffers.now)) (spans_replaced (members_now (stock c.args.buffers.now) c.args.buffer) c.args.first c.args.removed c.args.added.items) = all_lie c.args.buffers.now c.args.graph.now c.requires.kept.0 kept c.order-order.ensures.levelled c.args.buffer in_stock c.args.first c.args.removed c.args.added.items c.requires.inside in
@@ -79,9 +93,9 @@ relinked-requires-clause-sources_there c =
 pub returns-in_err-linked-clause-fault : goal.returns-in_err-linked-clause-fault
 returns-in_err-linked-clause-fault c =
     let kept : IsKept (map known c.args.buffers.now) c.args.graph.now c.requires.kept.0 = c.requires.kept.1 in
-    let in_stock : c.args.buffer < count (stock c.args.buffers.now) = there c.args.buffers.now c.args.graph.now c.requires.kept.0 kept c.args.buffer c.requires.there c.requires.projection in
+    let in_stock : c.args.buffer < count (stock c.args.buffers.now) = there c.args.buffers.now c.args.graph.now c.requires.kept.0 kept c.args.buffer c.requires.there c.requires.carrier in
     let held : slice_get c.args.buffers.now c.args.buffer ≡ Some c.index-all-buffer.result = got c.args.buffers.now c.args.buffers.now c.args.buffer c.buffer.inside.0 c.index-all-buffer.result refl c.buffer.view_is in_stock c.index-all-buffer.is in
-    let same : members_now (stock c.args.buffers.now) c.args.buffer ≡ held_members c.index-all-buffer.result = members_are c.args.buffers.now c.args.graph.now c.requires.kept.0 kept c.args.buffer c.requires.there c.requires.projection c.index-all-buffer.result held in
+    let same : members_now (stock c.args.buffers.now) c.args.buffer ≡ held_members c.index-all-buffer.result = members_are c.args.buffers.now c.args.graph.now c.requires.kept.0 kept c.args.buffer c.requires.there c.requires.carrier c.index-all-buffer.result held in
     let shown : List Member = (spans_replaced (members_now (stock c.args.buffers.now) c.args.buffer) c.args.first c.args.removed c.args.added.items) in
     let list_is : c.in_ok-list.list.items ≡ shown = c.in_ok-list.ensures ∙ ap (λ ms. spans_replaced ms c.args.first c.args.removed c.args.added.items) (sym same) in
     let lie : All (LiesIn (stock c.args.buffers.now)) (spans_replaced (members_now (stock c.args.buffers.now) c.args.buffer) c.args.first c.args.removed c.args.added.items) = all_lie c.args.buffers.now c.args.graph.now c.requires.kept.0 kept c.order-order.ensures.levelled c.args.buffer in_stock c.args.first c.args.removed c.args.added.items c.requires.inside in
@@ -95,9 +109,9 @@ returns-in_err-linked-clause-fault c =
 pub returns-in-Some-clause-fault : goal.returns-in-Some-clause-fault
 returns-in-Some-clause-fault c =
     let kept : IsKept (map known c.args.buffers.now) c.args.graph.now c.requires.kept.0 = c.requires.kept.1 in
-    let in_stock : c.args.buffer < count (stock c.args.buffers.now) = there c.args.buffers.now c.args.graph.now c.requires.kept.0 kept c.args.buffer c.requires.there c.requires.projection in
+    let in_stock : c.args.buffer < count (stock c.args.buffers.now) = there c.args.buffers.now c.args.graph.now c.requires.kept.0 kept c.args.buffer c.requires.there c.requires.carrier in
     let held : slice_get c.args.buffers.now c.args.buffer ≡ Some c.index-all-buffer.result = got c.args.buffers.now c.args.buffers.now c.args.buffer c.buffer.inside.0 c.index-all-buffer.result refl c.buffer.view_is in_stock c.index-all-buffer.is in
-    let same : members_now (stock c.args.buffers.now) c.args.buffer ≡ held_members c.index-all-buffer.result = members_are c.args.buffers.now c.args.graph.now c.requires.kept.0 kept c.args.buffer c.requires.there c.requires.projection c.index-all-buffer.result held in
+    let same : members_now (stock c.args.buffers.now) c.args.buffer ≡ held_members c.index-all-buffer.result = members_are c.args.buffers.now c.args.graph.now c.requires.kept.0 kept c.args.buffer c.requires.there c.requires.carrier c.index-all-buffer.result held in
     let shown : List Member = (spans_replaced (members_now (stock c.args.buffers.now) c.args.buffer) c.args.first c.args.removed c.args.added.items) in
     let list_is : c.in_ok-list.list.items ≡ shown = c.in_ok-list.ensures ∙ ap (λ ms. spans_replaced ms c.args.first c.args.removed c.args.added.items) (sym same) in
     let lie : All (LiesIn (stock c.args.buffers.now)) (spans_replaced (members_now (stock c.args.buffers.now) c.args.buffer) c.args.first c.args.removed c.args.added.items) = all_lie c.args.buffers.now c.args.graph.now c.requires.kept.0 kept c.order-order.ensures.levelled c.args.buffer in_stock c.args.first c.args.removed c.args.added.items c.requires.inside in
@@ -110,14 +124,14 @@ returns-in-Some-clause-fault c =
     let graph_is : c.in_ok-linked.linked ≡ linked c.args.graph.now c.args.buffer (sources_in [] (spans_replaced (members_now (stock c.args.buffers.now) c.args.buffer) c.args.first c.args.removed c.args.added.items)) = c.in_ok-linked.ensures.graph ∙ ap (linked c.args.graph.now c.args.buffer) (c.deref-5.ensures.value ∙ are) in
     let limits : spans_fault (stock c.args.buffers.now) c.args.buffer c.args.first c.args.removed c.args.added.items ≡ first_some (stock_limits (spans_set (stock c.args.buffers.now) c.args.buffer c.args.first c.args.removed c.args.added.items).stock) = limits_left c.args.buffers.now c.args.graph.now c.requires.kept.0 kept c.order-order.ensures.levelled c.args.buffer in_stock c.args.first c.args.removed c.args.added.items c.requires.inside c.in_ok-snapshots.snapshots.items found c.deref-4.result.now long _ c.in_ok-members.members apart _ c.in_ok-linked.linked stands in
     let long_is : c.from.result ≡ members_len (spans_replaced (members_now (stock c.args.buffers.now) c.args.buffer) c.args.first c.args.removed c.args.added.items) = c.from.ensures ∙ c.len.ensures ∙ ap members_len members_shown in
-    long_refused c.args.buffers.now c.args.graph.now c.requires.kept.0 kept c.args.buffer c.requires.there c.requires.projection c.args.first c.args.removed c.requires.part c.args.added.items c.order-order.ensures.levelled c.requires.inside (subst IsLevelled graph_is c.in_ok-linked.ensures.levelled) limits c.in-Some.refusal c.from.result long_is (sym c.units_limit.ensures ∙ c.in-Some.is)
+    long_refused c.args.buffers.now c.args.graph.now c.requires.kept.0 kept c.args.buffer c.requires.there c.requires.carrier c.requires.plain c.args.first c.args.removed c.requires.part c.args.added.items c.order-order.ensures.levelled c.requires.inside (subst IsLevelled graph_is c.in_ok-linked.ensures.levelled) limits c.in-Some.refusal c.from.result long_is (sym c.units_limit.ensures ∙ c.in-Some.is)
 
 pub reshown-requires-clause-part : goal.reshown-requires-clause-part
 reshown-requires-clause-part c = λ h is.
     let kept : IsKept (map known c.args.buffers.now) c.args.graph.now c.requires.kept.0 = c.requires.kept.1 in
-    let in_stock : c.args.buffer < count (stock c.args.buffers.now) = there c.args.buffers.now c.args.graph.now c.requires.kept.0 kept c.args.buffer c.requires.there c.requires.projection in
+    let in_stock : c.args.buffer < count (stock c.args.buffers.now) = there c.args.buffers.now c.args.graph.now c.requires.kept.0 kept c.args.buffer c.requires.there c.requires.carrier in
     let held : slice_get c.args.buffers.now c.args.buffer ≡ Some c.index-all-buffer.result = got c.args.buffers.now c.args.buffers.now c.args.buffer c.buffer.inside.0 c.index-all-buffer.result refl c.buffer.view_is in_stock c.index-all-buffer.is in
-    let same : members_now (stock c.args.buffers.now) c.args.buffer ≡ held_members c.index-all-buffer.result = members_are c.args.buffers.now c.args.graph.now c.requires.kept.0 kept c.args.buffer c.requires.there c.requires.projection c.index-all-buffer.result held in
+    let same : members_now (stock c.args.buffers.now) c.args.buffer ≡ held_members c.index-all-buffer.result = members_are c.args.buffers.now c.args.graph.now c.requires.kept.0 kept c.args.buffer c.requires.there c.requires.carrier c.index-all-buffer.result held in
     let shown : List Member = (spans_replaced (members_now (stock c.args.buffers.now) c.args.buffer) c.args.first c.args.removed c.args.added.items) in
     let list_is : c.in_ok-list.list.items ≡ shown = c.in_ok-list.ensures ∙ ap (λ ms. spans_replaced ms c.args.first c.args.removed c.args.added.items) (sym same) in
     let lie : All (LiesIn (stock c.args.buffers.now)) (spans_replaced (members_now (stock c.args.buffers.now) c.args.buffer) c.args.first c.args.removed c.args.added.items) = all_lie c.args.buffers.now c.args.graph.now c.requires.kept.0 kept c.order-order.ensures.levelled c.args.buffer in_stock c.args.first c.args.removed c.args.added.items c.requires.inside in
@@ -126,14 +140,14 @@ reshown-requires-clause-part c = λ h is.
     let long : c.deref-4.result.now ≡ map {B = ℕ × ℕ} (λ (x : Snapshot). (x.buffer, length x.text)) c.in_ok-snapshots.snapshots.items = c.deref-4.ensures.value ∙ c.in_ok-lengths.ensures ∙ ap (map {B = ℕ × ℕ} (λ (x : Snapshot). (x.buffer, length x.text))) c.deref-3.ensures.value in
     let apart : Refuses (first_fault (len_in c.deref-4.result.now) (spans_replaced (members_now (stock c.args.buffers.now) c.args.buffer) c.args.first c.args.removed c.args.added.items)) (Ok c.in_ok-members.members) = subst (λ ms. Refuses (first_fault (len_in c.deref-4.result.now) ms) (Ok c.in_ok-members.members)) list_is c.in_ok-members.ensures.fault in
     let members_shown : c.in_ok-members.members ≡ (spans_replaced (members_now (stock c.args.buffers.now) c.args.buffer) c.args.first c.args.removed c.args.added.items) = c.in_ok-members.ensures.members ∙ list_is in
-    can_respan c.args.buffers.now c.args.graph.now c.requires.kept.0 kept c.args.buffer c.requires.there c.requires.projection c.args.first c.args.removed c.requires.part c.args.added.items h is c.in_ok-members.members members_shown
+    can_respan c.args.buffers.now c.args.graph.now c.requires.kept.0 kept c.args.buffer c.requires.there c.requires.carrier c.requires.plain c.args.first c.args.removed c.requires.part c.args.added.items h is c.in_ok-members.members members_shown
 
 pub reshown-requires-clause-sources_there : goal.reshown-requires-clause-sources_there
 reshown-requires-clause-sources_there c =
     let kept : IsKept (map known c.args.buffers.now) c.args.graph.now c.requires.kept.0 = c.requires.kept.1 in
-    let in_stock : c.args.buffer < count (stock c.args.buffers.now) = there c.args.buffers.now c.args.graph.now c.requires.kept.0 kept c.args.buffer c.requires.there c.requires.projection in
+    let in_stock : c.args.buffer < count (stock c.args.buffers.now) = there c.args.buffers.now c.args.graph.now c.requires.kept.0 kept c.args.buffer c.requires.there c.requires.carrier in
     let held : slice_get c.args.buffers.now c.args.buffer ≡ Some c.index-all-buffer.result = got c.args.buffers.now c.args.buffers.now c.args.buffer c.buffer.inside.0 c.index-all-buffer.result refl c.buffer.view_is in_stock c.index-all-buffer.is in
-    let same : members_now (stock c.args.buffers.now) c.args.buffer ≡ held_members c.index-all-buffer.result = members_are c.args.buffers.now c.args.graph.now c.requires.kept.0 kept c.args.buffer c.requires.there c.requires.projection c.index-all-buffer.result held in
+    let same : members_now (stock c.args.buffers.now) c.args.buffer ≡ held_members c.index-all-buffer.result = members_are c.args.buffers.now c.args.graph.now c.requires.kept.0 kept c.args.buffer c.requires.there c.requires.carrier c.index-all-buffer.result held in
     let shown : List Member = (spans_replaced (members_now (stock c.args.buffers.now) c.args.buffer) c.args.first c.args.removed c.args.added.items) in
     let list_is : c.in_ok-list.list.items ≡ shown = c.in_ok-list.ensures ∙ ap (λ ms. spans_replaced ms c.args.first c.args.removed c.args.added.items) (sym same) in
     let lie : All (LiesIn (stock c.args.buffers.now)) (spans_replaced (members_now (stock c.args.buffers.now) c.args.buffer) c.args.first c.args.removed c.args.added.items) = all_lie c.args.buffers.now c.args.graph.now c.requires.kept.0 kept c.order-order.ensures.levelled c.args.buffer in_stock c.args.first c.args.removed c.args.added.items c.requires.inside in
@@ -151,9 +165,9 @@ returns-in_err-next-clause-fault c =
 pub returns-clause-begun : goal.returns-clause-begun
 returns-clause-begun c =
     let kept : IsKept (map known c.args.buffers.now) c.args.graph.now c.requires.kept.0 = c.requires.kept.1 in
-    let in_stock : c.args.buffer < count (stock c.args.buffers.now) = there c.args.buffers.now c.args.graph.now c.requires.kept.0 kept c.args.buffer c.requires.there c.requires.projection in
+    let in_stock : c.args.buffer < count (stock c.args.buffers.now) = there c.args.buffers.now c.args.graph.now c.requires.kept.0 kept c.args.buffer c.requires.there c.requires.carrier in
     let held : slice_get c.args.buffers.now c.args.buffer ≡ Some c.index-all-buffer.result = got c.args.buffers.now c.args.buffers.now c.args.buffer c.buffer.inside.0 c.index-all-buffer.result refl c.buffer.view_is in_stock c.index-all-buffer.is in
-    let same : members_now (stock c.args.buffers.now) c.args.buffer ≡ held_members c.index-all-buffer.result = members_are c.args.buffers.now c.args.graph.now c.requires.kept.0 kept c.args.buffer c.requires.there c.requires.projection c.index-all-buffer.result held in
+    let same : members_now (stock c.args.buffers.now) c.args.buffer ≡ held_members c.index-all-buffer.result = members_are c.args.buffers.now c.args.graph.now c.requires.kept.0 kept c.args.buffer c.requires.there c.requires.carrier c.index-all-buffer.result held in
     let shown : List Member = (spans_replaced (members_now (stock c.args.buffers.now) c.args.buffer) c.args.first c.args.removed c.args.added.items) in
     let list_is : c.in_ok-list.list.items ≡ shown = c.in_ok-list.ensures ∙ ap (λ ms. spans_replaced ms c.args.first c.args.removed c.args.added.items) (sym same) in
     let lie : All (LiesIn (stock c.args.buffers.now)) (spans_replaced (members_now (stock c.args.buffers.now) c.args.buffer) c.args.first c.args.removed c.args.added.items) = all_lie c.args.buffers.now c.args.graph.now c.requires.kept.0 kept c.order-order.ensures.levelled c.args.buffer in_stock c.args.first c.args.removed c.args.added.items c.requires.inside in
@@ -166,4 +180,4 @@ returns-clause-begun c =
     let graph_is : c.in_ok-linked.linked ≡ linked c.args.graph.now c.args.buffer (sources_in [] (spans_replaced (members_now (stock c.args.buffers.now) c.args.buffer) c.args.first c.args.removed c.args.added.items)) = c.in_ok-linked.ensures.graph ∙ ap (linked c.args.graph.now c.args.buffer) (c.deref-5.ensures.value ∙ are) in
     let limits : spans_fault (stock c.args.buffers.now) c.args.buffer c.args.first c.args.removed c.args.added.items ≡ first_some (stock_limits (spans_set (stock c.args.buffers.now) c.args.buffer c.args.first c.args.removed c.args.added.items).stock) = limits_left c.args.buffers.now c.args.graph.now c.requires.kept.0 kept c.order-order.ensures.levelled c.args.buffer in_stock c.args.first c.args.removed c.args.added.items c.requires.inside c.in_ok-snapshots.snapshots.items found c.deref-4.result.now long _ c.in_ok-members.members apart _ c.in_ok-linked.linked stands in
     let long_is : c.from.result ≡ members_len (spans_replaced (members_now (stock c.args.buffers.now) c.args.buffer) c.args.first c.args.removed c.args.added.items) = c.from.ensures ∙ c.len.ensures ∙ ap members_len members_shown in
-    has_begun c.args.buffers.now c.args.graph.now c.requires.kept.0 kept c.args.buffer c.requires.there c.requires.projection c.args.first c.args.removed c.requires.part c.args.added.items c.order-order.ensures.levelled c.requires.inside c.in_ok-linked.linked graph_is c.in_ok-linked.ensures.levelled limits (shown_apart c.args.buffers.now c.args.graph.now c.requires.kept.0 kept c.order-order.ensures.levelled c.args.buffer in_stock c.args.first c.args.removed c.args.added.items c.requires.inside c.in_ok-snapshots.snapshots.items found c.deref-4.result.now long _ c.in_ok-members.members apart) (shown_cover c.args.buffers.now c.args.graph.now c.requires.kept.0 kept c.order-order.ensures.levelled c.args.buffer in_stock c.args.first c.args.removed c.args.added.items c.requires.inside c.in_ok-snapshots.snapshots.items found c.deref-4.result.now long _ c.in_ok-members.members apart) c.reshown.new.buffers c.index-all-buffer.result held c.in_ok-members.members members_shown (subst (λ k. k ≤ 2 ^ 22) (long_is ∙ ap members_len (sym members_shown)) (not_passed Which.Units (2 ^ 22) c.from.result (sym c.units_limit.ensures ∙ c.in_default.is))) c.deref-6.result.now (c.deref-6.ensures.value ∙ found) c.in_ok-next.next (c.in_ok-next.ensures.reshown c.index-all-buffer.result held)
+    has_begun c.args.buffers.now c.args.graph.now c.requires.kept.0 kept c.args.buffer c.requires.there c.requires.carrier c.requires.plain c.args.first c.args.removed c.requires.part c.args.added.items c.order-order.ensures.levelled c.requires.inside c.in_ok-linked.linked graph_is c.in_ok-linked.ensures.levelled limits (shown_apart c.args.buffers.now c.args.graph.now c.requires.kept.0 kept c.order-order.ensures.levelled c.args.buffer in_stock c.args.first c.args.removed c.args.added.items c.requires.inside c.in_ok-snapshots.snapshots.items found c.deref-4.result.now long _ c.in_ok-members.members apart) (shown_cover c.args.buffers.now c.args.graph.now c.requires.kept.0 kept c.order-order.ensures.levelled c.args.buffer in_stock c.args.first c.args.removed c.args.added.items c.requires.inside c.in_ok-snapshots.snapshots.items found c.deref-4.result.now long _ c.in_ok-members.members apart) c.reshown.new.buffers c.index-all-buffer.result held c.in_ok-members.members members_shown (subst (λ k. k ≤ 2 ^ 22) (long_is ∙ ap members_len (sym members_shown)) (not_passed Which.Units (2 ^ 22) c.from.result (sym c.units_limit.ensures ∙ c.in_default.is))) c.deref-6.result.now (c.deref-6.ensures.value ∙ found) c.in_ok-next.next (c.in_ok-next.ensures.reshown c.index-all-buffer.result held)

@@ -1,10 +1,8 @@
-use Rattle.std.proofs.Common.{◌≡◌, ◌++◌, ◌∷◌, [], List, length, refl, ap, ◌∙◌}
-use Rattle.ed_base.specs.declared.Which.{Which}
+use Rattle.std.proofs.Common.{◌≡◌, ◌++◌, ◌∷◌, [], List, refl, ap, ◌∙◌}
 use Rattle.ed_group.specs.Answers.{spans_fault}
 use Rattle.ed_climb.specs.Climbing.{move_to}
 use Rattle.ed_climb.specs.declared.fault.PlanFault.{PlanFault}
 use Rattle.ed_held.specs.declared.moves.Move.{Move}
-use Rattle.ed_climb.specs.Limited.{passed}
 use Rattle.ed_held.specs.Seen.{stock}
 use Rattle.ed_group.proofs.Begins.{handed_on}
 use Rattle.ed_group.proofs.Projected.{refuses_memory}
@@ -21,6 +19,5 @@ returns-in_err-add-clause-fault c =
 pub returns-clause-leads : goal.returns-clause-leads
 returns-clause-leads c =
     let moves : c.add.new.moves.items ≡ move_to c.args.buffer c.in_ok-graph.next [] ∷ [] = c.in_ok-add.ensures.moves ∙ ap (λ ts. c.new-moves.result.items ++ move_to c.args.buffer c.in_ok-graph.next ts ∷ []) c.empty.ensures ∙ ap (λ (ms : List Move). ms ++ move_to c.args.buffer c.in_ok-graph.next [] ∷ []) c.new-moves.ensures.items in
-    let most : c.members_limit-members.result ≡ passed Which.Members 1024 (length c.in_ok-graph.next.members) = c.members_limit-members.ensures ∙ ap (passed Which.Members 1024) (c.from.ensures ∙ c.count.ensures.count ∙ ap length c.members.ensures) in
     spans_lead c.args.buffers.now c.args.graph.now c.requires.kept.0 c.requires.kept.1 c.order-order.ensures.levelled c.args.buffer c.requires.there c.args.first c.args.removed c.args.added.items c.requires.inside c.begun.new.buffers c.in_ok-graph.graph c.in_ok-graph.next c.in_ok-graph.ensures.begun
-    (λ h is. c.may_turn.ensures h is c.if-not-may_turn.false) _ refl moves refl most c.in_ok-add.ensures.seen
+    (λ h is. c.may_turn.ensures h is c.if-not-may_turn.false) _ refl moves refl c.in_ok-add.ensures.seen

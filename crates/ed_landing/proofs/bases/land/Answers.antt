@@ -1,4 +1,4 @@
-use Rattle.std.proofs.Common.{◌≡◌, ◌++◌, ◌∷◌, [], List, map, Ok, Err, Some, refl, sym, ap, ◌∙◌, subst, slice_get, slice_set, slice_index_or}
+use Rattle.std.proofs.Common.{◌≡◌, List, map, Ok, Err, Some, refl, sym, ap, ◌∙◌, subst, slice_get, slice_set, slice_index_or}
 use Rattle.ed_callbacks.specs.HookLists.{hook_table}
 use Rattle.ed_held.specs.declared.held.Held.{Held}
 use Rattle.ed_held.specs.Seen.{known}

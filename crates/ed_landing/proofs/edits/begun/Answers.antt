@@ -1,6 +1,5 @@
-use Rattle.std.proofs.Common.{◌≡◌, ℕ, List, [], None, refl, sym, ap, ◌∙◌, subst, length}
+use Rattle.std.proofs.Common.{refl, sym, ◌∙◌, subst}
 use Rattle.std.proofs.lemmas.List.{length-map}
-use Rattle.ed_base.specs.declared.Piece.{Piece}
 use Rattle.ed_callbacks.specs.HookLists.{hook_table}
 use Rattle.ed_descent.specs.Edits.{pieces_of_edits}
 use Rattle.ed_descent.specs.InBoxes.{boxes_of}
@@ -46,4 +45,4 @@ returns-clause-leads g c =
     c.land_all.new.buffers c.land_all.ensures.same c.in_ok-moves.moves.items
     (c.in_ok-moves.ensures.landed c.args.graph.now (edits_sent (hook_table c.args.hooks.now) (stock c.args.buffers.now) c.args.edits.now) (stand_on c.args.buffers.now c.args.graph.now c.requires.kept.0 c.requires.kept.1 c.order-order.ensures.levelled)
     (subst (λ vs. HaveArrived (stock c.args.buffers.now) (edits_sent (hook_table c.args.hooks.now) (stock c.args.buffers.now) c.args.edits.now) (boxes_of vs)) (sym c.deref.ensures.value) here))
-    _ c.in_ok-share.ensures refl refl refl c.in_ok-moves.ensures.seen
+    _ c.in_ok-share.ensures refl refl c.in_ok-moves.ensures.seen

@@ -1,9 +1,8 @@
 use Rattle.std.proofs.Common.{subst}
 use Rattle.ed_risen.specs.Laws.{CurrentVector, OneVector}
-use Rattle.ed_sending.proofs.Groups.AcceptedEdit.{IsReady}
-use Rattle.ed_sending.proofs.Groups.OneWay.{NamesLower}
 use Rattle.ed_machine.specs.State.{State}
 use Rattle.ed_core.proofs.state.Core.count.Goals as goal
+use Rattle.ed_sending.specs.Ready.{IsReady, NamesLower}
 
 pub returns-clause-one : goal.returns-clause-one
 returns-clause-one c = subst (λ (s : State). OneVector s.stock) c.self.view_is c.count.ensures.one

@@ -8,6 +8,6 @@ use Rattle.ed_core.proofs.state.Core.step.Goals as goal
 pub returns-clause-typed : goal.returns-clause-typed
 unfolding step
 returns-clause-typed g c =
-    let left : OnOk c.tell-told.result (c.tell-told.new.self ≡ (step (hook_table c.args.hooks.now) c.args.self.now c.args.event.now).state) = search rules in
-    let answered : IfOk c.tell-told.result (λ r. r ≡ (step (hook_table c.args.hooks.now) c.args.self.now c.args.event.now).reply) = search rules in
-    typed_all (hook_table c.args.hooks.now) c.args.self.now c.tell-told.new.self c.args.event.now (step (hook_table c.args.hooks.now) c.args.self.now c.args.event.now) c.tell-told.result (step-told (hook_table c.args.hooks.now) c.args.self.now c.args.event.now) c.count-count_before.ensures.ready c.count-count_before.ensures.low c.count-count_before.ensures.named c.count-count.ensures.ready left answered
+    let left : OnOk c.tell-told.result (c.tell-told.new.self ≡ (step (hook_table c.args.hooks.now) c.args.self.now c.args.seat c.args.event.now).state) = search rules in
+    let answered : IfOk c.tell-told.result (λ r. r ≡ (step (hook_table c.args.hooks.now) c.args.self.now c.args.seat c.args.event.now).reply) = search rules in
+    typed_all (hook_table c.args.hooks.now) c.args.self.now c.tell-told.new.self c.args.event.now (step (hook_table c.args.hooks.now) c.args.self.now c.args.seat c.args.event.now) c.tell-told.result (step-told (hook_table c.args.hooks.now) c.args.self.now c.args.seat c.args.event.now) c.count-count_before.ensures.ready c.count-count_before.ensures.low c.count-count_before.ensures.named c.count-count.ensures.ready left answered

@@ -5,10 +5,9 @@ use Rattle.ed_held.specs.Seen.{stock, known}
 use Rattle.ed_climb.specs.Kept.{IsKept}
 use Rattle.ed_risen.specs.Laws.{OneVector}
 use Rattle.ed_group.proofs.Lasting.{kept_current}
-use Rattle.ed_sending.proofs.Groups.AcceptedEdit.{IsReady}
-use Rattle.ed_sending.proofs.Groups.OneWay.{NamesLower}
 use Rattle.ed_group.proofs.Ready.{kept_ready, kept_low}
 use Rattle.ed_group.proofs.stock.Stock.count.Goals as goal
+use Rattle.ed_sending.specs.Ready.{IsReady, NamesLower}
 
 pub returns-clause-within : goal.returns-clause-within
 returns-clause-within c = subst (λ hs. first_some (stock_limits (stock hs)) ≡ None) c.self.view_is c.self.invariant.within

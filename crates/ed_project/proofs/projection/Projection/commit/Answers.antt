@@ -1,15 +1,16 @@
-use Rattle.std.proofs.Common.{◌≡◌, ◌<◌, ◌^◌, ◌-◌, ap, [], ◌∷◌, ◌++◌, length, arith, length-append, ◌∙◌, sym}
-use Rattle.ed_project.specs.Records.{Projection, shown, version_at}
-use Rattle.ed_project.proofs.Long.{long_push}
+use Rattle.std.proofs.Common.{◌≡◌, [], ◌∷◌, length, subst, sym}
+use Rattle.std.specs.Prelude.{All}
+use Rattle.std.proofs.lemmas.List.Elements.{All-append, All-cons, All-nil}
+use Rattle.ed_layers.specs.Records.{members_len}
+use Rattle.ed_project.specs.declared.shown.Shown.{Shown}
+use Rattle.ed_project.specs.Records.{IsShown, Next, shown}
 use Rattle.ed_project.proofs.projection.Projection.commit.Goals as goal
 
 pub invariant_of-self : goal.invariant_of-self
 invariant_of-self c =
-    let versions : c.push_reserved.new.self.items ≡ c.self.inside.versions.items ++ shown c.args.next.members c.args.next.sources c.args.next.snapshot.text ∷ [] = cc in
-    let changes : c.push_reserved-2.new.self.items ≡ c.self.inside.changes.items ++ c.args.next.changes ∷ [] = cc in
-    let seen : c.args.self.now.versions ≡ c.self.inside.versions.items = sym (ap (λ (x : Projection). x.versions) c.self.view_is) in
-    let room : length c.self.inside.versions.items < 2 ^ 32 - 1 = (let n = ap length seen in omega (arith, c.requires.number)) in (
-      rw (versions, changes) (long_push c.self.inside.versions.items c.self.inside.changes.items (shown c.args.next.members c.args.next.sources c.args.next.snapshot.text) c.args.next.changes c.self.invariant.0
-          (c.requires.from ∙ ap (λ vs. length (version_at vs (length vs - 1)).text) seen) c.requires.to c.requires.long),
-      rw (versions, length-append) (omega arith),
-    )
+    let s : Shown = shown c.next.inside.members c.next.inside.sources c.next.inside.snapshot.text in
+    let here : IsShown s = record {
+      long = subst (λ (n : Next). length n.snapshot.text ≡ members_len n.members) (sym c.next.view_is) c.requires.long;
+      literals = c.next.invariant;
+    } in
+    subst (All IsShown) (sym c.push.ensures.versions) (All-append IsShown c.self.inside.kept.versions (s ∷ []) c.self.invariant (All-cons IsShown s [] here (All-nil IsShown)))
