@@ -6,7 +6,7 @@ use Rattle.std.proofs.lemmas.List.Sums.{sum_by-cons}
 use Rattle.ed_base.specs.declared.edit.Span.{Span}
 use Rattle.ed_base.specs.Runs.{runs}
 use Rattle.ed_base.specs.Spans.{end_of}
-use Rattle.ed_layers.specs.Records.{is_shown, members_of, elision, tracked}
+use Rattle.ed_layers.specs.Records.{is_shown, member_len, members_len, members_of, elision, tracked}
 use Rattle.ed_layers.specs.Order.{conflict, fails_to_cover, first_conflict}
 use Rattle.ed_layers.specs.Hidden.{hidden_by}
 use Rattle.ed_layers.specs.Texts.{text_over}
@@ -84,3 +84,7 @@ pub texts_len : (p : ℕ) (text : List ℕ) (ss : List Span) → AreApartFrom p 
 texts_len p text [] apart = refl
 texts_len p text (s ∷ ss) apart =
     omega (arith, sum_by-cons (λ (t : List ℕ). length t) (slice_range text s.start (end_of s)) (map (λ s. slice_range text s.start (end_of s)) ss), length_range text s.start (end_of s) apart.2, texts_len (end_of s + 1) text ss apart.3, apart.2)
+
+pub members_held : (source p n : ℕ) (ss : List Span) → AreApartFrom p n ss → members_len (map (tracked source) ss) ≡ held_below n ss
+members_held source p n [] apart = refl
+members_held source p n (s ∷ ss) apart = omega (arith, sum_by-cons member_len (tracked source s) (map (tracked source) ss), members_held source (end_of s + 1) n ss apart.3, apart.2)

@@ -1,6 +1,6 @@
 //! Hidden places after a step of the source.
 ghost use Rattle.std.specs.Prelude.{◌≡◌, ◌-◌, ◌<◌, ◌≤◌, ◌^◌, ◌++◌, [], length, min, IfOk, OnOk};
-ghost use Rattle.ed_base.specs.ChangeList.{IsNormal};
+ghost use Rattle.ed_base.specs.ChangeList.{IsNormal, new_len};
 ghost use Rattle.ed_base.specs.Spans.{end_of};
 ghost use Rattle.ed_kept.specs.Kept.{ArePairsRising, pairs_of};
 ghost use Rattle.ed_layers.specs.Hidden.{among_hidden, flags_after};
@@ -128,7 +128,8 @@ impl Hidden {
         step: &SourceStep,
     ) -> Result<Hidden, OutOfMemory>
         requires { step.now.changes.old_len ≡ length self.now }
-        ensures { IfOk result (λ h. h ≡ flags_after me (step_seen step.now) self.now) }
+        ensures flags { IfOk result (λ h. h ≡ flags_after me (step_seen step.now) self.now) }
+        ensures len { IfOk result (λ h. length h ≡ new_len step.now.changes) }
     {
         let len = step.changes.new_len();
         let kept = kept_by(alloc, &step.changes)?;

@@ -3,7 +3,7 @@ ghost use Rattle.std.specs.Prelude.{◌≡◌, ℕ, ◌<◌, ◌≤◌, length, 
 ghost use Rattle.ed_base.specs.Runs.{runs};
 ghost use Rattle.ed_base.specs.Spans.{end_of};
 ghost use Rattle.ed_layers.specs.Hidden.{nearest};
-ghost use Rattle.ed_layers.specs.Records.{elision, is_shown, members_of, tracked};
+ghost use Rattle.ed_layers.specs.Records.{elision, is_shown, members_len, members_of, tracked};
 ghost use Rattle.ed_layers.specs.Texts.{text_over};
 ghost use Rattle.ed_spans.specs.SpanSets.{AreApartFrom, held_below, in_spans};
 
@@ -86,7 +86,8 @@ impl Hidden {
     ///
     /// Memory was refused.
     pub fn members(&self, alloc: Global, source: BufferNo) -> Result<Members, OutOfMemory>
-        ensures { IfOk result (λ m. (version : ℕ) → m ≡ members_of (elision self.now source version)) }
+        ensures members { IfOk result (λ m. (version : ℕ) → m ≡ members_of (elision self.now source version)) }
+        ensures len { IfOk result (λ m. members_len m ≡ nearest self.now (length self.now)) }
     {
         let shown = self.shown_runs(alloc)?;
         let list = tracked(alloc, source, &shown)?;

@@ -1,5 +1,5 @@
 -- What stays hidden, and what is put in among hidden units but for what came through the buffer.
-use Rattle.std.proofs.Common.{◌≡◌, ℕ, ◌-◌, ◌<◌, ◌^◌, not, ◌||◌, ◌&&◌, ap, ◌∙◌, arith}
+use Rattle.std.proofs.Common.{◌≡◌, length, ℕ, ◌-◌, ◌<◌, ◌^◌, not, ◌||◌, ◌&&◌, ap, ◌∙◌, arith}
 use Rattle.std.specs.List.{All, list_any}
 use Rattle.ed_base.specs.ChangeList.{IsNormal, new_len, step}
 use Rattle.ed_kept.specs.Kept.{ArePairsRising, pairs_of}
@@ -10,6 +10,7 @@ use Rattle.ed_spans.proofs.EndLemmas.{apart_later, apart_within}
 use Rattle.ed_elide.specs.AfterStep.{new_spans, own_spans, put_spans}
 use Rattle.ed_elide.specs.Pairs.{placed_in}
 use Rattle.ed_elide.proofs.AdvanceLemmas.{advanced, new_hold, new_within, own_within}
+use Rattle.ed_elide.proofs.FlagLemmas.{length_flags}
 use Rattle.ed_elide.proofs.PairLemmas.{at}
 use Rattle.ed_elide.proofs.PutLemmas.{all_puts_apart}
 use Rattle.ed_elide.proofs.ShownPairs.{pairs_within, placed_within}
@@ -90,9 +91,12 @@ holds c pairs q below =
     c.in_ok-spans.ensures.holds q ∙ ap (λ x. x || in_spans c.deref-6.result.now q) stayed
     ∙ ap (λ x. list_any (at q) (placed_in 0 c.runs.result.now (step c.args.step.now.changes).kept) || x) (among ∙ ap (λ x. x && not (in_spans c.deref-4.result.now q)) put ∙ ap (λ x. in_spans (put_spans c.args.self.now c.args.step.now.changes.old_len 0 0 c.args.step.now.changes.changes) q && not x) own)
 
-pub returns : goal.returns
-returns c =
-    let d : After-runs = (goal.at.returns c).After-runs in
+pub returns-clause-flags : goal.returns-clause-flags
+returns-clause-flags c =
+    let d : After-runs = (goal.at.returns-clause-flags c).After-runs in
     c.in_ok-next.ensures ∙ ap (λ n. hidden_by n c.in_ok-spans.spans.items) c.new_len-len.ensures
     ∙ advanced c.args.self.now c.args.me c.args.step.now.changes c.args.step.now.trails c.runs.result.now c.in_ok-spans.spans.items (normal d) c.requires c.as_slice.ensures.rising c.runs.ensures.flags
-    (holds (goal.at.returns c).In_ok-spans (pairs_are (goal.at.returns c).In_ok-hidden))
+    (holds (goal.at.returns-clause-flags c).In_ok-spans (pairs_are (goal.at.returns-clause-flags c).In_ok-hidden))
+
+pub returns-clause-len : goal.returns-clause-len
+returns-clause-len c = ap length c.in_ok-next.ensures ∙ length_flags c.new_len-len.result c.in_ok-spans.spans.items ∙ c.new_len-len.ensures
