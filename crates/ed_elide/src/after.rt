@@ -115,8 +115,8 @@ impl Hidden {
 
     /// The hidden places after this step of the source, of the buffer `me` over it. A unit that was
     /// kept stays hidden or shown. One that was put in is hidden where it has a kept neighbour and
-    /// each that it has is hidden, unless it came through this buffer. It takes
-    /// O((c + r) log (c + r)) for c changes and runs of ways and r hidden runs.
+    /// each that it has is hidden, unless it came through this buffer. It takes O(c log r + r) for c
+    /// changes and runs of ways and r hidden runs.
     ///
     /// # Errors
     ///

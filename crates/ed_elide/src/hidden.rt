@@ -77,7 +77,7 @@ impl Hidden {
         Ok(hidden)
     }
 
-    /// The same places and those in the spans.
+    /// The same places and those in the spans. It takes O(r + k log k) for r runs and k spans.
     ///
     /// # Errors
     ///
@@ -92,7 +92,8 @@ impl Hidden {
         Ok(hidden)
     }
 
-    /// The same places but for those in the spans, which are shown.
+    /// The same places but for those in the spans, which are shown. It takes O(r + k log k) for r runs
+    /// and k spans.
     ///
     /// # Errors
     ///

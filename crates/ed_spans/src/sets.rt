@@ -8,7 +8,8 @@ use ed_base::{OutOfMemory, Span};
 use std::alloc::Global;
 
 /// What one list of spans or the other holds, as spans that lie apart. The lists are in any order.
-/// It takes O(k log k) for k spans.
+/// It takes O(k log k) for k spans, and O(k) where each list rises, since the sort merges what is in
+/// order.
 ///
 /// # Errors
 ///
@@ -27,7 +28,8 @@ pub fn union(alloc: Global, first: &[Span], second: &[Span]) -> Result<Vec<Span>
 }
 
 /// What spans that lie apart in a text of `len` units hold and the others don't, as spans that lie
-/// apart. The others are in any order. It takes O(k log k) for k spans.
+/// apart. The others are in any order. It takes O(k log k) for k spans, and O(k) where the others
+/// rise.
 ///
 /// # Errors
 ///
