@@ -3,3 +3,4 @@ pub mod PlaceLemmas
 pub mod RunLemmas
 pub mod JoinLemmas
 pub mod GapLemmas
+pub mod EndLemmas

@@ -3,7 +3,11 @@
 #![tactic(auto)]
 
 mod between;
+mod growing;
 mod joining;
+mod sets;
 
 pub use between::gaps;
+pub use growing::put_behind;
 pub use joining::{join, join_rising};
+pub use sets::{difference, union};
