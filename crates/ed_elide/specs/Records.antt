@@ -21,6 +21,7 @@ pub record Elision : Type 0 where
 
 -- the version that comes next: what it shows, what leads to it, and its snapshot
 pub record Next : Type 0 where
+  pub source : ℕ
   pub hidden : List Bool
   pub version : ℕ
   pub members : List Member
@@ -50,8 +51,13 @@ shown_now e = version_at e.versions (now e.versions)
 abbrev pub record_of : ℕ → ElisionVersion → Record
 record_of source s = elision s.hidden source s.version
 
-abbrev pub record_next : ℕ → Next → Record
-record_next source n = elision n.hidden source n.version
+abbrev pub record_next : Next → Record
+record_next n = elision n.hidden n.source n.version
+
+-- its members and the version that it names, as its record has them
+pub record IsOfRecord (n : Next) : Type 0 where
+  pub members : n.members ≡ members_of (record_next n)
+  pub sources : n.sources ≡ (n.source, n.version) ∷ []
 
 -- what is kept beside the hidden places of a version agrees with them
 pub record IsShown (source : ℕ) (s : ElisionVersion) : Type 0 where
@@ -70,13 +76,14 @@ pub record IsUnchanged (old new : Elision) : Type 0 where
 
 -- The changes are those of the carrier's step from the current version to the next, and they make that step.
 pub record IsStep (steps : ℕ → Option SourceStep) (e : Elision) (n : Next) : Type 0 where
-  pub changes : n.changes ≡ change_list (carrier_step all_stay steps (record_of e.source (shown_now e)) (record_next e.source n)) n.snapshot.text
-  pub step : step n.changes ≡ carrier_step all_stay steps (record_of e.source (shown_now e)) (record_next e.source n)
+  pub changes : n.changes ≡ change_list (carrier_step all_stay steps (record_of e.source (shown_now e)) (record_next n)) n.snapshot.text
+  pub step : step n.changes ≡ carrier_step all_stay steps (record_of e.source (shown_now e)) (record_next n)
 
 -- the step can be made on this state: there is room, and a number
 pub record IsPlanned (e : Elision) (n : Next) : Type 0 where
   pub room : 0 < e.spare
   pub number : length e.versions < 2 ^ 32 - 1
+  pub source : n.source ≡ e.source
   pub buffer : n.snapshot.buffer ≡ e.buffer
   pub version : n.snapshot.version ≡ length e.versions
   pub from : n.changes.old_len ≡ length (shown_now e).text

@@ -1,14 +1,14 @@
 //! Elision buffers as values.
-ghost use Rattle.std.specs.Prelude.{◌≡◌, ◌↔◌, ℕ, ◌+◌, ◌-◌, ◌<◌, ◌≤◌, ◌^◌, ◌++◌, ◌∷◌, [], length, slice_get, slice_range, IsTrue, IfOk, Option, Some};
-ghost use Rattle.ed_base.specs.ChangeList.{new_len};
+ghost use Rattle.std.specs.Prelude.{◌≡◌, ◌↔◌, ℕ, ◌+◌, ◌-◌, ◌<◌, ◌≤◌, ◌^◌, ◌++◌, ◌∷◌, [], length, slice_get, slice_range, IsTrue, IfOk, Option, Some, None};
+ghost use Rattle.ed_base.specs.ChangeList.{new_len, step as changed};
 ghost use Rattle.ed_layers.specs.Hidden.{flags_after};
 ghost use Rattle.ed_layers.specs.Records.{elision, members_len, members_of};
 ghost use Rattle.ed_layers.specs.Texts.{text_over};
 ghost use Rattle.ed_layers.specs.SourceStep as layers;
-ghost use Rattle.ed_members.specs.Steps.{step_seen, steps_seen};
+ghost use Rattle.ed_members.specs.Steps.{step_seen};
 ghost use Rattle.ed_track.specs.Linked.{AreLinked, len_before, len_after};
 ghost use Rattle.ed_elide.specs.Records.{IsPlanned, IsShown, IsStep, IsUnchanged, now, shown, shown_now, shown_of, version_at};
-ghost use Rattle.ed_elide.specs.Steps.{Steps as StepsBy, no_steps};
+ghost use Rattle.ed_elide.specs.Steps.{Steps as StepsBy};
 
 use crate::hidden::Hidden;
 use crate::next::NextRecord;
@@ -94,7 +94,7 @@ impl Elision {
         requires source { source.now.buffer ≡ self.old.source }
         requires steps { step.now.source ≡ self.old.source }
         requires old { step.now.changes.old_len ≡ length (shown_now self.old).hidden }
-        requires new { new_len step.now.changes ≡ length source.now.text }
+        requires new { (changed step.now.changes).new_len ≡ length source.now.text }
         requires number { length self.old.versions < 2 ^ 32 - 1 }
         ensures same { IsUnchanged self.old self.new }
         ensures counted { count.new ≡ count.old }
@@ -103,7 +103,7 @@ impl Elision {
         ensures members { IfOk result (λ n. n.members ≡ members_of (elision n.hidden self.old.source n.version)) }
         ensures sources { IfOk result (λ n. n.sources ≡ (self.old.source, source.now.version) ∷ []) }
         ensures text { IfOk result (λ n. n.snapshot.text ≡ text_over (λ b. source.now.text) n.members) }
-        ensures step { IfOk result (λ n. IsStep (steps_seen (step.now ∷ [])) self.old n) }
+        ensures step { IfOk result (λ n. (steps : ℕ → Option layers.SourceStep) → steps self.old.source ≡ Some (step_seen step.now) → IsStep steps self.old n) }
         ensures planned { IfOk result (λ n. IsPlanned self.new n) }
     {
         let hidden = self.newest().hidden.advance(alloc, self.buffer(), step)?;
@@ -134,7 +134,7 @@ impl Elision {
         ensures members { IfOk result (λ n. n.members ≡ members_of (elision hidden self.old.source n.version)) }
         ensures sources { IfOk result (λ n. n.sources ≡ (self.old.source, source.now.version) ∷ []) }
         ensures text { IfOk result (λ n. n.snapshot.text ≡ text_over (λ b. source.now.text) n.members) }
-        ensures step { IfOk result (λ n. IsStep no_steps self.old n) }
+        ensures step { IfOk result (λ n. (steps : ℕ → Option layers.SourceStep) → steps self.old.source ≡ None → IsStep steps self.old n) }
         ensures planned { IfOk result (λ n. IsPlanned self.new n) }
     {
         let none = Changes::none(hidden.len());
@@ -189,6 +189,7 @@ impl Elision {
             text,
         };
         Ok(NextRecord {
+            source: self.source,
             hidden,
             version,
             members,
@@ -215,6 +216,7 @@ impl Elision {
             sources,
             changes,
             snapshot,
+            ..
         } = next;
         let shown = ElisionVersion {
             hidden,

@@ -108,6 +108,21 @@ impl Hidden {
         Ok(hidden)
     }
 
+    /// The same places once more.
+    ///
+    /// # Errors
+    ///
+    /// Memory was refused.
+    pub fn copied(&self, alloc: Global) -> Result<Hidden, OutOfMemory>
+        ensures { IfOk result (λ h. h ≡ self.now) }
+    {
+        let len = self.len();
+        let mut spans = Vec::new(alloc);
+        spans.extend_from_slice(self.runs())?;
+        let hidden = Hidden::kept(alloc, len, spans)?;
+        Ok(hidden)
+    }
+
     /// The length of the source text.
     pub fn len(&self) -> u32
         ensures { result ≡ length self.now }

@@ -1,8 +1,9 @@
 //! A version of an elision buffer that was planned and not yet made.
 ghost use Rattle.std.specs.Prelude.{◌≡◌, IfOk};
+ghost use Rattle.ed_elide.specs.Records.{IsOfRecord};
 
 use crate::hidden::Hidden;
-use ed_base::{Changes, OutOfMemory, VersionList, VersionNo};
+use ed_base::{BufferNo, Changes, OutOfMemory, VersionList, VersionNo};
 use ed_members::Members;
 use ed_version::Snapshot;
 use std::marker::Model;
@@ -10,6 +11,7 @@ use std::marker::Model;
 /// What a commit will add to an elision buffer: the version that comes next, and what leads to it.
 #[derive(Drop)]
 pub struct NextRecord {
+    pub(crate) source: BufferNo,
     pub(crate) hidden: Hidden,
     pub(crate) version: VersionNo,
     pub(crate) members: Members,
@@ -19,11 +21,12 @@ pub struct NextRecord {
 }
 
 impl Model for NextRecord {
-    ghost use Rattle.ed_elide.specs.Records.{Next};
+    ghost use Rattle.ed_elide.specs.Records.{IsOfRecord, Next};
 
     ghost Value = { Next };
 
     ghost view = { λ n. record {
+      source = n.source;
       hidden = n.hidden;
       version = n.version;
       members = n.members;
@@ -31,6 +34,8 @@ impl Model for NextRecord {
       changes = n.changes;
       snapshot = n.snapshot;
     } };
+
+    ghost invariant = { λ n. IsOfRecord (record { source = n.source; hidden = n.hidden; version = n.version; members = n.members; sources = n.sources; changes = n.changes; snapshot = n.snapshot }) };
 }
 
 impl NextRecord {
@@ -39,6 +44,13 @@ impl NextRecord {
         ensures { result.now ≡ self.now.changes }
     {
         &self.changes
+    }
+
+    /// The buffer that the next version shows.
+    pub fn source(&self) -> BufferNo
+        ensures { result ≡ self.now.source }
+    {
+        self.source
     }
 
     /// The hidden places of the next version.
@@ -50,7 +62,8 @@ impl NextRecord {
 
     /// The members of the next version.
     pub fn members(&self) -> &Members
-        ensures { result.now ≡ self.now.members }
+        ensures members { result.now ≡ self.now.members }
+        ensures record_is { IsOfRecord self.now }
     {
         &self.members
     }
