@@ -1,0 +1,5 @@
+pub mod AfterStep
+pub mod Pairs
+pub mod Kept
+pub mod Steps
+pub mod Records

@@ -1,0 +1,16 @@
+pub mod MemberCells
+pub mod DownImages
+pub mod UpImages
+pub mod MappedSpans
+pub mod UnitPlaces
+pub mod FirstPlaces
+pub mod ReachedVersions
+pub mod Levels
+pub mod MemberParts
+pub mod ShownLemmas
+pub mod DownSteps
+pub mod FirstSteps
+pub mod LowerSteps
+pub mod PointSteps
+pub mod CutSteps
+pub mod UpSteps
