@@ -293,7 +293,7 @@ module _ (w : Route) (order : List ℕ) (route : IsRoute w order) (passed done :
           let long : length flags ≡ length (text_now s source) = (inside_by (elision flags source version) is).1 in
           let there : source < count s = (there_by moved (elision flags source version) is).0 in
           let found : found_text (snaps t ((source, version) ∷ [])) source ≡ Some (text_now t source) = snap_there t ((source, version) ∷ []) source version (rw (eq-eqb source source refl) refl) in
-          subst (λ o. MatchOption o ⊥ (AreOfSource (step_in r.moves) source (length flags))) (sym found) (by long there (step_in r.moves source) refl)
+          subst (λ o. MatchOption o ⊥ (AreOfSource (step_in r.moves) source (length flags))) (sym found) (climbs.fits source there, by long there (step_in r.moves source) refl)
         where
           by : length flags ≡ length (text_now s source) → source < count s → (o : Option SourceStep) → step_in r.moves source ≡ o → MatchOption o (length flags ≡ length (text_now t source)) (λ x. (x.step.old_len ≡ length flags) × (x.step.new_len ≡ length (text_now t source)))
           by long there None still = long ∙ ap length (sym (still_text source there still))

@@ -14,7 +14,7 @@ use Rattle.ed_machine.specs.Accepted.{answers, accepted, version_or_now, snapsho
 use Rattle.ed_machine.specs.Refusals.{refusal, tests, no_version, past_version, no_hook, custom_name}
 use Rattle.ed_machine.specs.Step.{told, within_limits, weighed}
 use Rattle.ed_core.specs.Within.{IsWithin}
-use Rattle.ed_core.specs.Reading.{reply_unless, read_answer, text_answer, lines_answer, changes_answer, versions_answer, point_answer, span_answer, asked_answer}
+use Rattle.ed_core.specs.Reading.{reply_unless, read_answer, text_answer, lines_answer, changes_answer, versions_answer, point_answer, span_answer, asked_answer, nearest_answer}
 use Rattle.ed_core.proofs.Limits.{told-refused, told-accepted, read-light}
 
 -- ---- the whole step
@@ -74,6 +74,10 @@ module _ (hooks : HookTable) (s : State) (name : List ℕ) (n : ℕ) (found : So
   unfolding tests accepted
   asked_read x = rw (← found) refl
 
+  pub nearest_read : (p : ℕ) → nearest_answer s n p ≡ read_answer hooks s (Command.Nearest name p)
+  unfolding tests accepted
+  nearest_read p = rw (← found) refl
+
 -- ---- the whole step, for each command
 
 pub answered : (hooks : HookTable) (s : State) (command : Command) (reply : Reply) → IsWithin s → OnlyReads hooks s command → reply ≡ read_answer hooks s command → within_limits s (weighed (answers s reply)) ≡ told hooks s command
@@ -107,6 +111,10 @@ module _ (hooks : HookTable) (s : State) (name : List ℕ) where
   pub readonly_reads : (start len : ℕ) → OnlyReads hooks s (Command.Readonly name start len)
   unfolding accepted
   readonly_reads start len = refl
+
+  pub nearest_reads : (p : ℕ) → OnlyReads hooks s (Command.Nearest name p)
+  unfolding accepted
+  nearest_reads p = refl
 
 -- the same for a command that is seen in another way
 pub answered_as : (hooks : HookTable) (s : State) (seen command : Command) (reply : Reply) → seen ≡ command → IsWithin s → OnlyReads hooks s command → reply ≡ read_answer hooks s command → within_limits s (weighed (answers s reply)) ≡ told hooks s seen

@@ -48,7 +48,7 @@ or_else-assoc None b c = refl
 or_else-assoc (Some x) b c = refl
 
 -- one more behind
-behind : {X : Type 0} (os : List (Option X)) (l : Option X) → or_else (first_some os) l ≡ first_some (os ++ l ∷ [])
+pub behind : {X : Type 0} (os : List (Option X)) (l : Option X) → or_else (first_some os) l ≡ first_some (os ++ l ∷ [])
 behind os l = ap (or_else (first_some os)) (sym (or_else-none l)) ∙ sym (first_some-append os (l ∷ []))
 
 -- ---- a new base

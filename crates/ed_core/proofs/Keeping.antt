@@ -1,14 +1,15 @@
 -- What makes versions keeps the buffers and the number of their regions.
 use Rattle.std.proofs.Common.{◌≡◌, ℕ, List, [], ◌∷◌, fold, Option, refl, ◌∙◌, length-set, Bool, true, false}
 use Rattle.std.proofs.lemmas.List.{length-map}
+use Rattle.ed_base.specs.declared.edit.Span.{Span}
 use Rattle.ed_base.specs.declared.piece.Member.{Member}
 use Rattle.ed_base.specs.declared.piece.Piece.{Piece}
 use Rattle.ed_base.specs.ChangeList.{ChangeList}
-use Rattle.ed_layers.specs.Records.{Record}
-use Rattle.ed_stock.specs.Stock.{Stock, Buffer, buffer, with_buffer, graph_order}
+use Rattle.ed_layers.specs.Records.{Record, base, projection, elision}
+use Rattle.ed_stock.specs.Stock.{Stock, Buffer, buffer, record_now, with_buffer, graph_order}
 use Rattle.ed_stock.specs.Versions.{Rising, with_version, with_record, risen, risen_at, is_moved}
 use Rattle.ed_stock.specs.Landing.{landed, landed_at, bases_reached}
-use Rattle.ed_stock.specs.Making.{spans_set}
+use Rattle.ed_stock.specs.Making.{elide_set, hidden_set, is_same_set, spans_set}
 use Rattle.ed_core.specs.Keeping.{HasAsMany, Keeps}
 use Rattle.ed_core.proofs.Lists.{at-set}
 
@@ -65,3 +66,16 @@ pub keeps-spans_set : (s : Stock) (b first count : ℕ) (added : List Member) �
 unfolding spans_set
 keeps-spans_set s b first count added =
     keeps-through s _ (spans_set s b first count added).stock (keeps-through s _ _ (keeps-record (record { stock = s; moves = [] }) b _ _) (keeps-risen _ _)) (keeps-buffer _ b _ (record { live = refl; given = refl }))
+
+keeps-hidden_set : (s : Stock) (b : ℕ) (r : Record) (new : List Bool) → Keeps s (hidden_set s b r new).stock
+keeps-hidden_set s b (base text reiterated) new = keeps-same s
+keeps-hidden_set s b (projection members sources) new = keeps-same s
+keeps-hidden_set s b (elision flags source version) new = by_same (is_same_set flags new) refl
+  where
+    by_same : (same : Bool) → is_same_set flags new ≡ same → Keeps s (hidden_set s b (elision flags source version) new).stock
+    by_same true e = rw e (keeps-same s)
+    by_same false e = rw e (keeps-through s _ _ (keeps-through s _ _ (keeps-record (record { stock = s; moves = [] }) b _ _) (keeps-risen _ _)) (keeps-buffer _ b _ (record { live = refl; given = refl })))
+
+pub keeps-elide_set : (s : Stock) (b : ℕ) (hide show : List Span) → Keeps s (elide_set s b hide show).stock
+unfolding elide_set
+keeps-elide_set s b hide show = keeps-hidden_set s b (record_now s b) _

@@ -16,6 +16,8 @@ pub mod Asking
 pub mod Nothing
 pub mod Resolvers
 pub mod Commands
+pub mod ElisionTelling
+pub mod SpanEnds
 pub mod Reaching
 pub mod Normalised
 pub mod Passing

@@ -1,5 +1,6 @@
 -- What the stock doesn't refuse passes none of its limits.
 use Rattle.std.proofs.Common.{◌≡◌, ℕ, ◌+◌, List, [], ◌∷◌, Option, Some, None, refl, ◌∙◌, ap}
+use Rattle.ed_base.specs.declared.edit.Span.{Span}
 use Rattle.ed_base.specs.declared.piece.Member.{Member}
 use Rattle.ed_base.specs.declared.refusal.Refusal.{Refusal}
 use Rattle.ed_base.specs.Hooks.{HookTable}
@@ -8,10 +9,10 @@ use Rattle.ed_layers.specs.Order.{mode_fault, overlap_fault}
 use Rattle.ed_stock.specs.Landing.{denial, down_fault}
 use Rattle.ed_stock.specs.Limits.{stock_limits}
 use Rattle.ed_stock.specs.Linking.{cycle, depth}
-use Rattle.ed_stock.specs.Making.{projection_of, sources_in, spans_replaced, spans_set, with_new}
+use Rattle.ed_stock.specs.Making.{elision_of, projection_of, sources_in, spans_replaced, spans_set, with_new}
 use Rattle.ed_stock.specs.Stock.{Stock, count}
 use Rattle.ed_group.specs.declared.BufferEdit.{BufferEdit}
-use Rattle.ed_group.specs.Answers.{len_now, members_now, projection_fault, spans_fault}
+use Rattle.ed_group.specs.Answers.{elision_fault, len_now, members_now, projection_fault, spans_fault}
 use Rattle.ed_group.specs.Edits.{pieces_of_edits}
 use Rattle.ed_group.specs.EditedStock.{edits_fault, edits_landed, edits_sent}
 use Rattle.ed_core.proofs.Resolvers.{limits-new}
@@ -40,6 +41,11 @@ projection-passes s members resolver e =
     let plain : first_some (stock_limits (with_new s (projection_of s members) None)) ≡ None =
     fourth-none (mode_fault (len_now s) members) (overlap_fault members) (depth s (count s + 1) (count s) (sources_in [] members)) (first_some (stock_limits (with_new s (projection_of s members) None))) e in
     ap first_some (limits-new s (projection_of s members) resolver None) ∙ plain
+
+pub elision-passes : (s : Stock) (source : ℕ) (hide : List Span) (resolver : Option (List ℕ)) → elision_fault s source hide ≡ None → first_some (stock_limits (with_new s (elision_of s source hide) resolver)) ≡ None
+elision-passes s source hide resolver e =
+    ap first_some (limits-new s (elision_of s source hide) resolver None)
+    ∙ last-none (depth s (count s + 1) (count s) (source ∷ [])) (first_some (stock_limits (with_new s (elision_of s source hide) None))) e
 
 pub spans-passes : (s : Stock) (b first removed : ℕ) (added : List Member) → spans_fault s b first removed added ≡ None → first_some (stock_limits (spans_set s b first removed added).stock) ≡ None
 spans-passes s b first removed added e =

@@ -10,11 +10,11 @@ use Rattle.ed_base.specs.Numbers.{first_some}
 use Rattle.ed_base.specs.ChangeList.{normal_form}
 use Rattle.ed_base.specs.Spans.{end_of}
 use Rattle.ed_change.specs.declared.ChangeFault.{ChangeFault}
-use Rattle.ed_layers.specs.Records.{is_carrier, members_of}
+use Rattle.ed_layers.specs.Records.{is_carrier, is_elision, members_of}
 use Rattle.ed_entry.specs.declared.Reply.{Reply}
 use Rattle.ed_machine.specs.State.{State, number_of, count, record_now}
 use Rattle.ed_machine.specs.Accepted.{Outcome}
-use Rattle.ed_machine.specs.Refusals.{wrong_kind, is_projection, stale, past, past_now, len_now}
+use Rattle.ed_machine.specs.Refusals.{wrong_kind, is_projection, stale, past, past_now, past_source, len_now}
 use Rattle.ed_machine.specs.Step.{or_refused}
 use Rattle.ed_core.specs.Deciding.{changes_outcome}
 
@@ -50,6 +50,10 @@ past_members s members = first_some (map (past_member s) members)
 
 abbrev pub spans_refusal : State → ℕ → Option ℕ → ℕ → List Member → Option Refusal
 spans_refusal s b at end members = first_some (wrong_kind s b is_projection ∷ stale s b at ∷ past (end ∷ []) (length (members_of (record_now s b))) ∷ past_members s members ∷ [])
+
+-- `ends` are those of all spans, to hide and then to show
+abbrev pub elide_refusal : State → ℕ → Option ℕ → List ℕ → Option Refusal
+elide_refusal s b at ends = first_some (wrong_kind s b is_elision ∷ stale s b at ∷ past_source s b ends ∷ [])
 
 -- what replaces are answered that have no change list, but for want of memory
 abbrev pub form_told : ChangeFault → Option Reply

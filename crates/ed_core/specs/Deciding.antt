@@ -2,13 +2,14 @@
 use Rattle.std.specs.Prelude.{ℕ, List, [], ◌∷◌, Result, Ok, Err, Option, Some, None}
 use Rattle.ed_base.specs.declared.Change.{Change}
 use Rattle.ed_base.specs.declared.Member.{Member}
+use Rattle.ed_base.specs.declared.Span.{Span}
 use Rattle.ed_base.specs.ChangeList.{ChangeList}
 use Rattle.ed_base.specs.Hooks.{HookTable}
 use Rattle.ed_layers.specs.Records.{base}
-use Rattle.ed_stock.specs.Making.{projection_of, spans_set}
+use Rattle.ed_stock.specs.Making.{elide_set, elision_of, projection_of, spans_set}
 use Rattle.ed_group.specs.declared.PlanFault.{PlanFault}
 use Rattle.ed_group.specs.declared.BufferEdit.{BufferEdit}
-use Rattle.ed_group.specs.Answers.{base_fault, projection_fault, spans_fault}
+use Rattle.ed_group.specs.Answers.{base_fault, elision_fault, hidden_fault, projection_fault, spans_fault}
 use Rattle.ed_group.specs.EditedStock.{edits_fault, edits_landed}
 use Rattle.ed_climb.specs.Group.{Plan}
 use Rattle.ed_entry.specs.declared.Reply.{Reply}
@@ -43,6 +44,9 @@ base_outcome s name text = or_refused s (base_fault s.stock text) (made s name (
 abbrev pub projection_outcome : State → List ℕ → List Member → Option (List ℕ) → Outcome
 projection_outcome s name members resolver = or_refused s (projection_fault s.stock members) (made s name (projection_of s.stock members) resolver)
 
+abbrev pub elision_outcome : State → List ℕ → ℕ → List Span → Option (List ℕ) → Outcome
+elision_outcome s name source hide resolver = or_refused s (elision_fault s.stock source hide) (made s name (elision_of s.stock source hide) resolver)
+
 -- ---- new versions
 
 -- an edit of one buffer alone
@@ -62,3 +66,6 @@ changes_outcome hooks s b c = by_changes c.changes
 
 abbrev pub spans_outcome : State → ℕ → ℕ → ℕ → List Member → Outcome
 spans_outcome s b first removed added = or_refused s (spans_fault s.stock b first removed added) (edited_to s (spans_set s.stock b first removed added))
+
+abbrev pub hidden_outcome : State → ℕ → List Span → List Span → Outcome
+hidden_outcome s b hide show = or_refused s (hidden_fault s.stock b hide show) (edited_to s (elide_set s.stock b hide show))

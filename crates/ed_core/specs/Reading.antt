@@ -9,12 +9,15 @@ use Rattle.ed_base.specs.Hooks.{HookTable}
 use Rattle.ed_base.specs.Numbers.{first_some, places}
 use Rattle.ed_base.specs.Spans.{end_of}
 use Rattle.ed_base.specs.Tracking.{tracked_point}
+use Rattle.ed_layers.specs.Hidden.{nearest}
+use Rattle.ed_layers.specs.Records.{is_elision}
 use Rattle.ed_lines.specs.Lines.{lines}
+use Rattle.ed_stock.specs.Making.{flags_of}
 use Rattle.ed_script.specs.declared.Command.{Command}
 use Rattle.ed_entry.specs.declared.Reply.{Reply}
-use Rattle.ed_machine.specs.State.{State, buffer, now, text_at, reiterated}
+use Rattle.ed_machine.specs.State.{State, buffer, now, record_now, text_at, reiterated}
 use Rattle.ed_machine.specs.Accepted.{accepted, version_or_now, snapshot, changes_at, tracked_to, span_move, asked_region}
-use Rattle.ed_machine.specs.Refusals.{refusal, no_version, past_version, past_now, wrong_kind, is_base, no_hook, custom_name}
+use Rattle.ed_machine.specs.Refusals.{refusal, no_version, past_version, past_now, past_source, wrong_kind, is_base, no_hook, custom_name}
 
 abbrev pub reply_unless : Option Refusal → Reply → Reply
 reply_unless (Some r) reply = Reply.Refused r
@@ -50,3 +53,6 @@ span_answer hooks s b how x at to = reply_unless (first_some (untracked s b at t
 
 abbrev pub asked_answer : HookTable → State → ℕ → Span → Reply
 asked_answer hooks s b x = reply_unless (first_some (wrong_kind s b is_base ∷ past_now s b (end_of x) ∷ [])) (asked_region (denied_at hooks (buffer s b).regions (now s b) false x))
+
+abbrev pub nearest_answer : State → ℕ → ℕ → Reply
+nearest_answer s b p = reply_unless (first_some (wrong_kind s b is_elision ∷ past_source s b (p ∷ []) ∷ [])) (Reply.At (nearest (flags_of (record_now s b)) p))

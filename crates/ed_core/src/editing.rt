@@ -55,7 +55,7 @@ impl Core {
     }
 
     /// The length of the current text.
-    fn len_now(&self, buffer: BufferNo) -> u32
+    pub(crate) fn len_now(&self, buffer: BufferNo) -> u32
         requires { buffer < count self.now }
         ensures len { result ≡ len_now self.now buffer }
         ensures few { result ≤ 2 ^ 22 }

@@ -3,6 +3,7 @@
 
 mod between;
 mod editing;
+mod eliding;
 mod landing;
 mod making;
 mod naming;

@@ -5,7 +5,7 @@ ghost use Rattle.ed_layers.specs.Records.{is_carrier};
 ghost use Rattle.ed_machine.specs.State.{count, now, record_now, text_at, text_now};
 ghost use Rattle.ed_machine.specs.Accepted.{version_or_now};
 ghost use Rattle.ed_machine.specs.Refusals.{no_version, past_version, past_now};
-ghost use Rattle.ed_core.specs.Reading.{text_answer, lines_answer, changes_answer, versions_answer, untracked, point_answer, span_answer, asked_answer};
+ghost use Rattle.ed_core.specs.Reading.{text_answer, lines_answer, changes_answer, versions_answer, untracked, point_answer, span_answer, asked_answer, nearest_answer};
 ghost use Rattle.ed_callbacks.specs.HookLists.{hook_table};
 
 use crate::between::{custom_between, point_between, span_between};
@@ -234,6 +234,24 @@ impl Core {
         match self.stock.denied_in(hooks, buffer, span) {
             None => Reply::Free,
             Some(region) => Reply::Denied { region },
+        }
+    }
+
+    /// Where a place of the current text of what an elision buffer shows lies in the elision buffer.
+    pub(crate) fn nearest(&self, buffer: BufferNo, pos: u32) -> Reply
+        requires { buffer < count self.now }
+        ensures { result ≡ nearest_answer self.now buffer pos }
+    {
+        let Some(hidden) = self.stock.hidden(buffer) else {
+            return Reply::Refused(Refusal::WrongKind);
+        };
+        let len = hidden.len();
+        if len < pos {
+            let end = u64::from(pos);
+            return Reply::Refused(Refusal::OutOfRange { end, len });
+        }
+        Reply::At {
+            pos: hidden.nearest(pos),
         }
     }
 }

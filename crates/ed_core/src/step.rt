@@ -25,6 +25,12 @@ impl Core {
                 spans,
                 resolver,
             } => return self.make_projection(hooks, name, spans, resolver),
+            Command::Elision {
+                name,
+                buffer,
+                hide,
+                resolver,
+            } => return self.make_elision(hooks, name, buffer, hide, resolver),
             Command::Edit {
                 buffer,
                 replaces,
@@ -37,6 +43,12 @@ impl Core {
                 spans,
                 at,
             } => return self.replace_spans(buffer, *first, *count, spans, at),
+            Command::Elide {
+                buffer,
+                hide,
+                show,
+                at,
+            } => return self.elide(buffer, hide, show, at),
             Command::Region {
                 buffer,
                 start,
@@ -75,6 +87,7 @@ impl Core {
                 let (start, len) = (*start, *len);
                 self.span_told(hooks, buffer, Span { start, len }, how, at, to)
             }
+            Command::Nearest { buffer, pos } => self.nearest_told(buffer, *pos),
         };
         Ok(self.answer(reply))
     }

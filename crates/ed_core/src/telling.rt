@@ -110,4 +110,15 @@ impl Core {
             Some(buffer) => self.denied_in(hooks, buffer, span),
         }
     }
+
+    /// The answer to `nearest`.
+    #[tactic(auto, using(crate::proofs::Answering::nearest_read), unfolding(ed_machine::specs::Refusals::tests))]
+    pub(crate) fn nearest_told(&self, name: &Name, pos: u32) -> Reply
+        ensures { (hooks : HookTable) → result ≡ read_answer hooks self.now (Told.Nearest name.now pos) }
+    {
+        match self.number_of(name) {
+            None => Reply::Refused(Refusal::NoBuffer),
+            Some(buffer) => self.nearest(buffer, pos),
+        }
+    }
 }

@@ -36,7 +36,7 @@ module _ (ks : List Known) (k : Known) (r : Record) (resolver : Option (List ℕ
       let g : now t (length ks) ≡ length (buffer (stock_of ks) (length ks)).records = grown_now (stock_of ks) t (length ks) r (new_grows ks k r resolver buffer_is) in
       g ∙ ap (λ o. length (unwrap_or o missing).records) (get_past (stock_of ks).buffers (length ks) (let e : length (stock_of ks).buffers ≡ length ks = length-map ks (λ (x : Known). x.buffer) in omega arith))
 
-  pub new_record : record_at t (length ks) 0 ≡ Some r
+  new_record : record_at t (length ks) 0 ≡ Some r
   new_record =
       ap (record_at t (length ks)) (sym new_first ∙ grown_now (stock_of ks) t (length ks) r (new_grows ks k r resolver buffer_is)) ∙ grown_last (stock_of ks) t (length ks) r (new_grows ks k r resolver buffer_is)
 

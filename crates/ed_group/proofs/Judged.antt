@@ -9,7 +9,7 @@ use Rattle.ed_stock.specs.Linking.{depth}
 use Rattle.ed_stock.specs.Stock.{count}
 use Rattle.ed_version.specs.declared.Snapshot.{Snapshot}
 use Rattle.ed_risen.proofs.FoundedLemmas.{each_weaker}
-use Rattle.ed_risen.proofs.Lists.{each_of, or_else_assoc, or_else_none}
+use Rattle.ed_risen.proofs.Lists.{or_else_assoc, or_else_none}
 use Rattle.ed_risen.proofs.Sources.{Agree, IsListed, all_listed, same_mode_fault}
 use Rattle.ed_climb.specs.declared.counts.Counts.{Counts}
 use Rattle.ed_climb.specs.declared.fault.PlanFault.{PlanFault}
@@ -20,7 +20,8 @@ use Rattle.ed_climb.specs.Kept.{IsKept}
 use Rattle.ed_group.specs.Placed.{too_deep}
 use Rattle.ed_held.specs.declared.held.Held.{Held}
 use Rattle.ed_held.specs.Seen.{known, stock}
-use Rattle.ed_group.proofs.Projected.{agrees, depth_is, linked_held, named_held, refused_none, refuses_first, sources_held}
+use Rattle.ed_group.proofs.Projected.{agrees, depth_held, linked_held, named_held, sources_held}
+use Rattle.ed_group.proofs.Refusing.{refused_none, refuses_first}
 use Rattle.ed_climb.proofs.Snapshots.{snaps}
 
 module _ (hs : List Held) (graph : List (List ℕ)) (counts : Counts) (kept : IsKept (map known hs) graph counts) (ms : List Member) (inside : All (LiesIn (stock hs)) ms)
@@ -34,7 +35,7 @@ module _ (hs : List Held) (graph : List (List ℕ)) (counts : Counts) (kept : Is
   judged_parts : standing_fault (stock hs) ms ≡ or_else (first_fault (len_in ls) ms) deep
   judged_parts =
       whole (mode_fault (len_now (stock hs)) ms) (mode_fault (len_in ls) ms) (overlap_fault ms) (depth (stock hs) (count (stock hs) + 1) (count (stock hs)) here) deep
-      (same_mode_fault (len_now (stock hs)) (len_in ls) ms (each_weaker (IsListed here) (Agree (len_now (stock hs)) (len_in ls)) (agrees hs graph counts kept ms inside ss ss_is ls ls_is) ms (all_listed ms))) (depth_is (map known hs) graph counts kept ms (each_of (LiesIn (stock hs)) ms inside) None)
+      (same_mode_fault (len_now (stock hs)) (len_in ls) ms (each_weaker (IsListed here) (Agree (len_now (stock hs)) (len_in ls)) (agrees hs graph counts kept ms inside ss ss_is ls ls_is) ms (all_listed ms))) (depth_held hs graph counts kept ms inside)
     where
       whole : (a a' b d d' : Option Refusal) → a ≡ a' → d ≡ d' → first_some (a ∷ b ∷ d ∷ []) ≡ or_else (or_else a' b) d'
       whole a a' b d d' e f = rw (e, f) (ap (λ x. or_else a' (or_else b x)) (or_else_none d') ∙ sym (or_else_assoc a' b d'))

@@ -4,6 +4,9 @@ pub mod NewLimits
 pub mod Based
 pub mod Zoned
 pub mod Lasting
+pub mod Current
+pub mod Refusing
+pub mod NewCarrier
 pub mod Projected
 pub mod FirstCarrier
 pub mod Spanned
@@ -12,3 +15,6 @@ pub mod Begins
 pub mod SpansBegins
 pub mod Judged
 pub mod Ready
+pub mod Elided
+pub mod NoMoves
+pub mod Hiding

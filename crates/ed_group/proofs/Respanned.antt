@@ -32,7 +32,8 @@ use Rattle.ed_risen.proofs.Settled.{all_of}
 use Rattle.ed_risen.proofs.FoundedLemmas.{each_version, each_weaker}
 use Rattle.ed_risen.proofs.Sources.{Agree, IsListed, OfSource, all_listed, same_mode_fault}
 use Rattle.ed_risen.proofs.Lists.{each_append, or_else_assoc, or_else_none, each_of}
-use Rattle.ed_group.proofs.Projected.{agrees, both_none, refused_none, refuses_first}
+use Rattle.ed_group.proofs.Projected.{agrees}
+use Rattle.ed_group.proofs.Refusing.{both_none, refused_none, refuses_first}
 use Rattle.ed_climb.proofs.Routes.{sources_same}
 use Rattle.ed_climb.proofs.Snapshots.{snaps}
 

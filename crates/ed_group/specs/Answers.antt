@@ -3,13 +3,14 @@ use Rattle.std.specs.Prelude.{ℕ, ◌+◌, ◌<◌, ◌≤◌, List, [], ◌∷
 use Rattle.ed_base.specs.declared.Member.{Member}
 use Rattle.ed_base.specs.declared.Refusal.{Refusal}
 use Rattle.ed_base.specs.Numbers.{first_some}
+use Rattle.ed_base.specs.declared.Span.{Span}
 use Rattle.ed_base.specs.Spans.{end_of}
 use Rattle.ed_layers.specs.Order.{mode_fault, overlap_fault}
 use Rattle.ed_layers.specs.Records.{base, members_of}
 use Rattle.ed_stock.specs.Stock.{Stock, record_now, text_now, count}
 use Rattle.ed_stock.specs.Limits.{stock_limits}
 use Rattle.ed_stock.specs.Linking.{cycle, depth}
-use Rattle.ed_stock.specs.Making.{with_new, projection_of, sources_in, spans_replaced, spans_set}
+use Rattle.ed_stock.specs.Making.{elide_set, elision_of, with_new, projection_of, sources_in, spans_replaced, spans_set}
 
 abbrev pub len_now : Stock → ℕ → ℕ
 len_now s b = length (text_now s b)
@@ -33,6 +34,18 @@ base_fault s text = first_some (stock_limits (with_base s text))
 
 abbrev pub projection_fault : Stock → List Member → Option Refusal
 projection_fault s members = first_some (mode_fault (len_now s) members ∷ overlap_fault members ∷ depth s (count s + 1) (count s) (sources_in [] members) ∷ first_some (stock_limits (with_projection s members None)) ∷ [])
+
+abbrev pub with_elision : Stock → ℕ → List Span → Option (List ℕ) → Stock
+with_elision s source hide resolver = with_new s (elision_of s source hide) resolver
+
+abbrev pub elision_fault : Stock → ℕ → List Span → Option Refusal
+elision_fault s source hide = first_some (depth s (count s + 1) (count s) (source ∷ []) ∷ first_some (stock_limits (with_elision s source hide None)) ∷ [])
+
+-- ---- other hidden places
+
+-- why no others are hidden
+abbrev pub hidden_fault : Stock → ℕ → List Span → List Span → Option Refusal
+hidden_fault s b hide show = first_some (stock_limits (elide_set s b hide show).stock)
 
 -- ---- replaced spans
 

@@ -7,6 +7,7 @@ pub mod Answers
 pub mod Placed
 pub mod Spanning
 pub mod Begun
+pub mod Hiding
 pub use Rattle.ed_descent.specs.Edits
 pub use Rattle.ed_landing.specs.EditedStock
 pub mod Judging

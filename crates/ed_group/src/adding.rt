@@ -20,7 +20,7 @@ use ed_project::Projection;
 use std::alloc::Global;
 
 /// The numbers with a new buffer that opens with so many units, and has so many tracked members.
-fn with_buffer(counts: &Counts, units: u64, tracked: u64) -> Counts
+pub fn with_buffer(counts: &Counts, units: u64, tracked: u64) -> Counts
     requires units { counts.now.inserted + units < 2 ^ 64 }
     requires versions { counts.now.versions + 1 < 2 ^ 64 }
     requires tracked { counts.now.placements + tracked < 2 ^ 64 }

@@ -1,14 +1,16 @@
-//! The members of a projection that isn't made.
-ghost use Rattle.std.specs.Prelude.{All};
+//! Projections and elision buffers that aren't made.
+ghost use Rattle.std.specs.Prelude.{◌+◌, ◌<◌, [], ◌∷◌, All};
 ghost use Rattle.ed_climb.specs.Refusals.{Refuses};
 ghost use Rattle.ed_group.specs.Answers.{LiesIn};
 ghost use Rattle.ed_group.specs.Judging.{standing_fault};
 ghost use Rattle.ed_held.specs.Seen.{stock};
+ghost use Rattle.ed_stock.specs.Linking.{depth};
+ghost use Rattle.ed_stock.specs.Stock.{count};
 
 use crate::listing::{lengths, newest_all, sources_in};
 use crate::placing::{joined, placed};
 use crate::stock::Stock;
-use ed_base::Member;
+use ed_base::{BufferNo, Member};
 use ed_climb::PlanFault;
 use std::alloc::Global;
 
@@ -28,6 +30,19 @@ impl Stock {
         let lengths = lengths(alloc, &snapshots)?;
         joined(alloc, members, &lengths)?;
         placed(alloc, &self.graph, &sources)?;
+        Ok(())
+    }
+
+    /// Whether a new elision buffer could stand over this buffer, but for limits. Nothing is made.
+    ///
+    /// # Errors
+    ///
+    /// Buffers would be stacked too high, or memory was refused.
+    pub fn judge_elision(&self, alloc: Global, source: BufferNo) -> Result<(), PlanFault>
+        requires there { source < count (stock self.now) }
+        ensures { Refuses (depth (stock self.now) (count (stock self.now) + 1) (count (stock self.now)) (source ∷ [])) result }
+    {
+        placed(alloc, &self.graph, &[source])?;
         Ok(())
     }
 }

@@ -3,6 +3,7 @@
 
 mod adding;
 mod editing;
+mod eliding;
 mod judging;
 mod listing;
 mod making;

@@ -1,11 +1,12 @@
 //! What can be asked of a stock.
-ghost use Rattle.std.specs.Prelude.{◌≡◌, ◌&&◌, ℕ, ◌+◌, ◌-◌, ◌<◌, ◌≤◌, ◌^◌, length, map, not, true, false, [], None, Some, IfOk, slice_get, slice_range};
+ghost use Rattle.std.specs.Prelude.{◌≡◌, ◌&&◌, ℕ, ◌+◌, ◌-◌, ◌<◌, ◌≤◌, ◌^◌, length, map, not, true, false, [], None, Some, IfOk, IfSome, is_some, slice_get, slice_range};
 ghost use Rattle.ed_base.specs.Denial.{denied_at};
 ghost use Rattle.ed_base.specs.Numbers.{first_some, places};
 ghost use Rattle.ed_base.specs.Spans.{end_of};
 ghost use Rattle.ed_callbacks.specs.HookLists.{hook_table};
 ghost use Rattle.ed_layers.specs.Records.{is_carrier, is_elision, members_of};
 ghost use Rattle.ed_stock.specs.Limits.{stock_limits};
+ghost use Rattle.ed_stock.specs.Making.{flags_of};
 ghost use Rattle.ed_stock.specs.Stock.{buffer, count, now, record_now, reiterated, text_at, text_now};
 ghost use Rattle.ed_track.specs.Linked.{AreLinked, len_after, len_before};
 ghost use Rattle.ed_group.specs.Answers.{members_now};
@@ -16,6 +17,7 @@ ghost use Rattle.ed_sending.specs.Ready.{IsReady, NamesLower};
 use crate::stock::Stock;
 use ed_base::{BufferNo, Changes, NumberList, OutOfMemory, RegionNo, Span, VersionNo};
 use ed_callbacks::Hooks;
+use ed_elide::Hidden;
 use ed_held::Held;
 use ed_text::Text;
 use ed_version::Snapshot;
@@ -72,6 +74,15 @@ impl Stock {
         ensures { result ≡ (is_carrier (record_now (stock self.now) b) && not (is_elision (record_now (stock self.now) b))) }
     {
         self.held(b).is_projection()
+    }
+
+    /// The hidden places of an elision buffer at its current version. Other buffers have none.
+    pub fn hidden(&self, b: BufferNo) -> Option<&Hidden>
+        requires there { b < count (stock self.now) }
+        ensures elision { is_some result ≡ is_elision (record_now (stock self.now) b) }
+        ensures hidden { IfSome result (λ h. h.now ≡ flags_of (record_now (stock self.now) b)) }
+    {
+        self.held(b).hidden()
     }
 
     /// How many members a projection has at its current version.

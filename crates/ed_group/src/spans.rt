@@ -24,7 +24,7 @@ use ed_pieces::Trails;
 use std::alloc::Global;
 
 /// Whether members of one of these buffers can be set once more.
-fn may_turn(buffers: &[Held], buffer: BufferNo) -> bool
+pub fn may_turn(buffers: &[Held], buffer: BufferNo) -> bool
     requires { buffer < length buffers.now }
     ensures { (h : Held) → slice_get buffers.now buffer ≡ Some h → result ≡ true → CanTurn h }
 {

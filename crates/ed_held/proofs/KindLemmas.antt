@@ -11,7 +11,7 @@ use Rattle.ed_base.specs.Denial.{regions_after}
 use Rattle.ed_base.specs.Numbers.{places}
 use Rattle.ed_buffer.specs.Planning.{Base, NextVersion}
 use Rattle.ed_layers.specs.CarrierStep.{all_stay, carrier_step, stay_around}
-use Rattle.ed_layers.specs.Records.{base, is_carrier, members_len, members_of, projection, sources_of}
+use Rattle.ed_layers.specs.Records.{Record, base, is_carrier, is_elision, members_len, members_of, projection, sources_of}
 use Rattle.ed_layers.specs.SourceStep.{SourceStep}
 use Rattle.ed_members.specs.Moving.{EndsInNew}
 use Rattle.ed_project.specs.Planning as projections
@@ -23,6 +23,8 @@ use Rattle.ed_version.specs.declared.Snapshot.{Snapshot}
 use Rattle.ed_project.specs.declared.Shown.{Shown}
 use Rattle.ed_stock.specs.Stock.{Buffer, reiterated_in}
 use Rattle.ed_version.specs.declared.Version.{Version}
+use Rattle.ed_elide.specs.Records as elisions
+use Rattle.ed_held.proofs.ElisionLemmas.{elision_last}
 use Rattle.ed_held.specs.Asking.{IsBase}
 use Rattle.ed_held.specs.Advancing.{Advances, CanGoOn, next_of, record_then}
 use Rattle.ed_held.specs.Following.{Follows}
@@ -44,6 +46,11 @@ base_last [] i = refl
 base_last (v ∷ vs) zero = refl
 base_last (v ∷ vs) (suc i) = base_last vs i
 
+pub base_bare : (vs : List Version) (i : ℕ) → is_elision (unwrap_or (slice_get (map base_record vs) i) (base [] 0)) ≡ false
+base_bare [] i = refl
+base_bare (v ∷ vs) zero = refl
+base_bare (v ∷ vs) (suc i) = base_bare vs i
+
 pub base_members : (vs : List Version) (i : ℕ) → members_of (unwrap_or (slice_get (map base_record vs) i) (base [] 0)) ≡ []
 base_members [] i = refl
 base_members (v ∷ vs) zero = refl
@@ -57,10 +64,12 @@ projection_last p turns some =
 pub base_held : (h : Held) → 0 < length (known h).buffer.records → is_carrier (last_of (known h).buffer) ≡ false → IsBase h
 base_held (Held.Base x) some bare = (x, refl)
 base_held (Held.Projection p turns) some bare = absurd (let e : is_carrier (last_of (known (Held.Projection p turns)).buffer) ≡ true = ap is_carrier (projection_last p turns (omega (arith, some, length-map p.versions record_of))) in cc)
+base_held (Held.Elision e turns) some bare = absurd (let h : is_carrier (last_of (known (Held.Elision e turns)).buffer) ≡ true = ap is_carrier (elision_last e turns (omega (arith, some, length-map e.versions (elisions.record_of e.source)))) in cc)
 
 pub texts_count : (h : Held) → length (known h).texts ≡ length (known h).buffer.records
 texts_count (Held.Base x) = length-map x.chain.versions _ ∙ sym (length-map x.chain.versions _)
 texts_count (Held.Projection p turns) = length-map p.versions _ ∙ sym (length-map p.versions _)
+texts_count (Held.Elision e turns) = length-map e.versions _ ∙ sym (length-map e.versions _)
 
 pub by_place : {X : Type 0} (f : X → ℕ) (at : ℕ → ℕ) (k : ℕ) (xs : List X) → ((i : ℕ) (x : X) → slice_get xs i ≡ Some x → at (k + i) ≡ f x) → map f xs ≡ map at (range_with_len k (length xs))
 by_place f at k [] h = refl
@@ -74,19 +83,20 @@ base_repeats x vs is =
     ∙ ap (λ o. option_map_or (λ r. reiterated_in r i) o i) (get_map base_record vs i v there))
     ∙ ap (λ n. map (reiterated_of x) (places n)) (sym (ap length is ∙ length-map vs base_record))
 
-pub itself_at : (vs : List Shown) (i j : ℕ) → option_map_or (λ r. reiterated_in r j) (slice_get (map record_of vs) i) j ≡ j
-itself_at [] i j = refl
-itself_at (v ∷ vs) zero j = refl
-itself_at (v ∷ vs) (suc i) j = itself_at vs i j
+itself_at : {X : Type 0} (as_record : X → Record) (own : (v : X) (j : ℕ) → reiterated_in (as_record v) j ≡ j) (vs : List X) (i j : ℕ) → option_map_or (λ r. reiterated_in r j) (slice_get (map as_record vs) i) j ≡ j
+itself_at as_record own [] i j = refl
+itself_at as_record own (v ∷ vs) zero j = own v j
+itself_at as_record own (v ∷ vs) (suc i) j = itself_at as_record own vs i j
 
 pub map_itself : (at : ℕ → ℕ) (xs : List ℕ) → ((i : ℕ) → at i ≡ i) → xs ≡ map at xs
 map_itself at [] h = refl
 map_itself at (x ∷ xs) h = ap (λ ys. x ∷ ys) (map_itself at xs h) ∙ ap (λ y. y ∷ map at xs) (sym (h x))
 
-pub projection_repeats : (x : Buffer) (vs : List Shown) → x.records ≡ map record_of vs → places (length vs) ≡ map (reiterated_of x) (places (length x.records))
-projection_repeats x vs is =
-    map_itself (reiterated_of x) (places (length vs)) (λ i. ap (λ rs. option_map_or (λ r. reiterated_in r i) (slice_get rs i) i) is ∙ itself_at vs i i)
-    ∙ ap (λ n. map (reiterated_of x) (places n)) (sym (ap length is ∙ length-map vs record_of))
+-- versions of a carrier repeat nothing
+pub carrier_repeats : {X : Type 0} (as_record : X → Record) → ((v : X) (j : ℕ) → reiterated_in (as_record v) j ≡ j) → (x : Buffer) (vs : List X) → x.records ≡ map as_record vs → places (length vs) ≡ map (reiterated_of x) (places (length x.records))
+carrier_repeats as_record own x vs is =
+    map_itself (reiterated_of x) (places (length vs)) (λ i. ap (λ rs. option_map_or (λ r. reiterated_in r i) (slice_get rs i) i) is ∙ itself_at as_record own vs i i)
+    ∙ ap (λ n. map (reiterated_of x) (places n)) (sym (ap length is ∙ length-map vs as_record))
 
 pub none_left : {X : Type 0} (p : X → Bool) (xs : List X) → list_any p xs ≡ false → filter (λ y. not (p y)) xs ≡ xs
 none_left p [] h = refl
@@ -131,6 +141,13 @@ turn_kept (Held.Projection p turns) (Held.Base x) same some may =
     let carrier : is_carrier (last_of (known (Held.Projection p turns)).buffer) ≡ true = ap is_carrier (projection_last p turns (omega (arith, some, length-map p.versions record_of))) in
     let bare : is_carrier (last_of (known (Held.Base x)).buffer) ≡ false = base_last x.chain.versions (length (known (Held.Base x)).buffer.records - 1) in
     absurd (let e : true ≡ false = sym carrier ∙ (ap (λ y. is_carrier (last_of y)) (sym same) ∙ bare) in cc)
+turn_kept (Held.Projection p turns) (Held.Elision e₂ turns₂) same some may = subst (λ k. k + 1 < 2 ^ 32) (sym (ap (λ (x : Buffer). x.turns) same)) may
+turn_kept (Held.Elision e turns) (Held.Projection p₂ turns₂) same some may = subst (λ k. k + 1 < 2 ^ 32) (sym (ap (λ (x : Buffer). x.turns) same)) may
+turn_kept (Held.Elision e turns) (Held.Elision e₂ turns₂) same some may = subst (λ k. k + 1 < 2 ^ 32) (sym (ap (λ (x : Buffer). x.turns) same)) may
+turn_kept (Held.Elision e turns) (Held.Base x) same some may =
+    let carrier : is_carrier (last_of (known (Held.Elision e turns)).buffer) ≡ true = ap is_carrier (elision_last e turns (omega (arith, some, length-map e.versions (elisions.record_of e.source)))) in
+    let bare : is_carrier (last_of (known (Held.Base x)).buffer) ≡ false = base_last x.chain.versions (length (known (Held.Base x)).buffer.records - 1) in
+    absurd (let h : true ≡ false = sym carrier ∙ (ap (λ y. is_carrier (last_of y)) (sym same) ∙ bare) in cc)
 
 -- ---- a base stands on nothing
 

@@ -1,2 +1,3 @@
+pub mod ElisionLemmas
 pub mod KindLemmas
 pub mod Landed

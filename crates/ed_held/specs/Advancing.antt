@@ -1,5 +1,5 @@
 -- What a buffer needs to go along with moves of its sources, and what it gives.
-use Rattle.std.specs.Prelude.{◌≡◌, ℕ, List, length, All, Result, IfOk, Option, MatchOption, unwrap_or}
+use Rattle.std.specs.Prelude.{◌≡◌, ℕ, ◌≤◌, ◌^◌, List, length, All, Result, IfOk, Option, MatchOption, unwrap_or}
 use Rattle.std.specs.Option.{option_map_or}
 use Rattle.ed_base.specs.declared.Member.{Member}
 use Rattle.ed_layers.specs.Bounds.{members_after}
@@ -25,9 +25,9 @@ pub record CanAdvance (b : ℕ) (steps : ℕ → Option SourceStep) (sources : L
   pub order : OwnInOrder b steps members
   pub there : All (HasSource steps sources) members
 
--- the flags are of the units that the source had, and its snapshot has those that it has now
+-- the flags are of the units that the source had, and its snapshot has those that it has now, no more than a text may have
 abbrev pub AreOfSource : (ℕ → Option SourceStep) → ℕ → ℕ → List ℕ → Type 0
-AreOfSource steps source n text = MatchOption (steps source) (n ≡ length text) (λ x. (x.step.old_len ≡ n) × (x.step.new_len ≡ length text))
+AreOfSource steps source n text = (length text ≤ 2 ^ 22) × MatchOption (steps source) (n ≡ length text) (λ x. (x.step.old_len ≡ n) × (x.step.new_len ≡ length text))
 
 -- the same of a record, whatever the kind of its buffer; a base stands on nothing
 abbrev pub CanGoOn : ℕ → (ℕ → Option SourceStep) → List Snapshot → Record → Type 0

@@ -2,8 +2,10 @@ pub mod Seen
 pub mod Moves
 pub mod Following
 pub mod OfProjections
+pub mod OfElisions
 pub mod Advancing
 pub mod Landing
 pub mod Asking
 pub mod Making
 pub mod Respanning
+pub mod Rehiding

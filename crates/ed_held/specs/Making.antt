@@ -23,3 +23,4 @@ known_turned k = record k { buffer = turn k.buffer }
 abbrev pub CanTurn : Held → Type 0
 CanTurn (Held.Base x) = ⊥
 CanTurn (Held.Projection p turns) = turns + 1 < 2 ^ 32
+CanTurn (Held.Elision e turns) = turns + 1 < 2 ^ 32

@@ -9,6 +9,7 @@ use Rattle.ed_stock.specs.Stock.{Stock}
 use Rattle.ed_stock.specs.Versions.{Rising, with_version}
 use Rattle.ed_version.specs.declared.Snapshot.{Snapshot}
 use Rattle.ed_buffer.specs.Planning as buffers
+use Rattle.ed_elide.specs.Records as elisions
 use Rattle.ed_pieces.specs.Trails.{trails_in}
 use Rattle.ed_project.specs.Planning as projections
 use Rattle.ed_held.specs.declared.held.Held.{Held}
@@ -20,14 +21,17 @@ use Rattle.ed_held.specs.Seen.{Known, known, text_of}
 abbrev pub changes_of : Planned → ChangeList
 changes_of (Planned.Base s) = s.changes
 changes_of (Planned.Projection n) = n.changes
+changes_of (Planned.Elision n) = n.changes
 
 abbrev pub record_of : Planned → Record
 record_of (Planned.Base s) = base s.snapshot.text s.reiterated
 record_of (Planned.Projection n) = projection n.members n.sources
+record_of (Planned.Elision n) = elisions.record_next n
 
 abbrev pub snapshot_of : Planned → Snapshot
 snapshot_of (Planned.Base s) = s.snapshot
 snapshot_of (Planned.Projection n) = n.snapshot
+snapshot_of (Planned.Elision n) = n.snapshot
 
 -- the moves as the definitions see them, and the stock in which they are made
 abbrev pub step_of : Move → SourceStep
@@ -61,6 +65,7 @@ snapshot_after hs ms b = option_map_or (λ m. snapshot_of m.planned) (move_of ms
 abbrev pub CanMake : Held → Planned → Type 0
 CanMake (Held.Base x) (Planned.Base s) = buffers.IsPlanned x s
 CanMake (Held.Projection p turns) (Planned.Projection n) = projections.IsPlanned p n
+CanMake (Held.Elision e turns) (Planned.Elision n) = elisions.IsPlanned e n
 CanMake _ _ = ⊥
 
 abbrev pub IsPlannedAt : List Held → Move → Type 0

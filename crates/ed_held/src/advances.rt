@@ -6,9 +6,10 @@ ghost use Rattle.ed_held.specs.Advancing.{Advances, CanAdvance, CanGoOn};
 ghost use Rattle.ed_held.specs.OfProjections.{GoesAlong};
 ghost use Rattle.ed_held.specs.Seen.{known, last_of};
 
+use crate::elides;
 use crate::held::Held;
 use crate::moves::Planned;
-use ed_base::Steps;
+use ed_base::{OutOfMemory, Steps};
 use ed_members::SourceStep;
 use ed_project::{NextRecord, Projection, ProjectionFault};
 use ed_version::Snapshot;
@@ -74,6 +75,14 @@ pub fn planned(
             match advanced(alloc, projection, sources, steps) {
                 Ok(next) => Ok(Planned::Projection(next)),
                 Err(fault) => Err(fault),
+            }
+        }
+        Held::Elision { elision, .. } => {
+            // It has a version.
+            let _now = elision.now();
+            match elides::advanced(alloc, elision, sources, steps) {
+                Ok(next) => Ok(Planned::Elision(next)),
+                Err(OutOfMemory) => Err(ProjectionFault::OutOfMemory),
             }
         }
     }

@@ -7,6 +7,7 @@ ghost use Rattle.ed_base.specs.Spans.{end_of};
 ghost use Rattle.ed_callbacks.specs.HookLists.{hook_table};
 ghost use Rattle.ed_layers.specs.Records.{is_carrier, is_elision, members_of, sources_of};
 ghost use Rattle.ed_readonly.specs.LiveRegions.{limit_passed, limit_told};
+ghost use Rattle.ed_stock.specs.Making.{flags_of};
 ghost use Rattle.ed_track.specs.Linked.{AreLinked, len_after, len_before};
 ghost use Rattle.ed_held.specs.Asking.{IsBase, regions_of, with_region, without_region, zoned};
 ghost use Rattle.ed_held.specs.Making.{CanTurn, known_grown, known_turned};
@@ -20,6 +21,7 @@ use ed_base::{
 };
 use ed_buffer::Base;
 use ed_callbacks::Hooks;
+use ed_elide::{Elision, Hidden};
 use ed_members::Members;
 use ed_project::Projection;
 use ed_readonly::RegionFault;
@@ -39,11 +41,13 @@ fn numbers_to(alloc: Global, last: u32) -> Result<NumberList, OutOfMemory>
     NumberList::of(alloc, numbers)
 }
 
-/// A buffer of the stock: a base, or a projection with the number of times that its members were set.
+/// A buffer of the stock: a base, or a projection or an elision buffer with the number of times that
+/// its members or its hidden places were set.
 #[derive(Drop)]
 pub enum Held {
     Base(Base),
     Projection { projection: Projection, turns: u32 },
+    Elision { elision: Elision, turns: u32 },
 }
 
 impl Held {
@@ -57,6 +61,7 @@ impl Held {
         match self {
             Held::Base(base) => base.chain().now(),
             Held::Projection { projection, .. } => projection.now(),
+            Held::Elision { elision, .. } => elision.now(),
         }
     }
 
@@ -68,6 +73,7 @@ impl Held {
         match self {
             Held::Base(base) => base.chain().text_at(version),
             Held::Projection { projection, .. } => projection.text(version),
+            Held::Elision { elision, .. } => elision.text(version),
         }
     }
 
@@ -83,6 +89,7 @@ impl Held {
         match self {
             Held::Base(base) => base.chain().snapshot(version),
             Held::Projection { projection, .. } => projection.snapshot(version),
+            Held::Elision { elision, .. } => elision.snapshot(version),
         }
     }
 
@@ -94,6 +101,7 @@ impl Held {
         match self {
             Held::Base(base) => base.chain().changes_from(version),
             Held::Projection { projection, .. } => projection.changes_from(version),
+            Held::Elision { elision, .. } => elision.changes_from(version),
         }
     }
 
@@ -106,6 +114,11 @@ impl Held {
             Held::Projection { projection, .. } => {
                 // It has a version.
                 let _now = projection.now();
+                false
+            }
+            Held::Elision { elision, .. } => {
+                // It has a version.
+                let _now = elision.now();
                 false
             }
         }
@@ -122,6 +135,11 @@ impl Held {
                 let _now = projection.now();
                 true
             }
+            Held::Elision { elision, .. } => {
+                // It has a version.
+                let _now = elision.now();
+                false
+            }
         }
     }
 
@@ -132,6 +150,7 @@ impl Held {
         match self {
             Held::Base(_) => 0,
             Held::Projection { projection, .. } => projection.members(projection.now()).count(),
+            Held::Elision { elision, .. } => elision.members(elision.now()).count(),
         }
     }
 
@@ -147,6 +166,7 @@ impl Held {
         match self {
             Held::Base(base) => base.chain().changes_between(from, to),
             Held::Projection { projection, .. } => projection.steps(from, to),
+            Held::Elision { elision, .. } => elision.steps(from, to),
         }
     }
 
@@ -158,6 +178,7 @@ impl Held {
         match self {
             Held::Base(base) => base.chain().reiterated_numbers(alloc),
             Held::Projection { projection, .. } => numbers_to(alloc, projection.now().0),
+            Held::Elision { elision, .. } => numbers_to(alloc, elision.now().0),
         }
     }
 
@@ -169,6 +190,7 @@ impl Held {
         match self {
             Held::Base(base) => base.regions().denied_in(span, base.chain().now(), hooks),
             Held::Projection { .. } => None,
+            Held::Elision { .. } => None,
         }
     }
 
@@ -190,6 +212,7 @@ impl Held {
         match self {
             Held::Base(base) => base.add_region(span, mode, edge, query),
             Held::Projection { .. } => unreachable!(),
+            Held::Elision { .. } => unreachable!(),
         }
     }
 
@@ -203,6 +226,7 @@ impl Held {
         match self {
             Held::Base(base) => base.remove_region(region),
             Held::Projection { .. } => unreachable!(),
+            Held::Elision { .. } => unreachable!(),
         }
     }
 
@@ -219,6 +243,9 @@ impl Held {
             (Held::Projection { projection, .. }, Planned::Projection(step)) => {
                 projection.commit(step);
             }
+            (Held::Elision { elision, .. }, Planned::Elision(step)) => {
+                elision.commit(step);
+            }
             _ => unreachable!(),
         }
     }
@@ -233,7 +260,7 @@ impl Held {
         self.make(planned);
     }
 
-    /// One turn more of a projection.
+    /// One turn more of a projection or an elision buffer.
     pub fn turn(&mut self)
         requires { CanTurn self.old }
         ensures { known self.new ≡ known_turned (known self.old) }
@@ -241,16 +268,19 @@ impl Held {
         match self {
             Held::Base(_) => unreachable!(),
             Held::Projection { turns, .. } => *turns += 1,
+            Held::Elision { turns, .. } => *turns += 1,
         }
     }
 
-    /// Whether it is a projection whose members can be set once more.
+    /// Whether it is a projection whose members, or an elision buffer whose hidden places, can be set
+    /// once more.
     pub fn can_turn(&self) -> bool
         ensures { result ≡ true → CanTurn self.now }
     {
         match self {
             Held::Base(_) => false,
             Held::Projection { turns, .. } => *turns < u32::MAX,
+            Held::Elision { turns, .. } => *turns < u32::MAX,
         }
     }
 
@@ -261,10 +291,27 @@ impl Held {
         match self {
             Held::Base(_) => &[],
             Held::Projection { projection, .. } => projection.sources(projection.now()).as_slice(),
+            Held::Elision { elision, .. } => elision.sources(elision.now()).as_slice(),
         }
     }
 
-    /// The members of the current version of a projection. A base has none.
+    /// The hidden places of the current version of an elision buffer. Other buffers have none.
+    pub fn hidden(&self) -> Option<&Hidden>
+        ensures elision { is_some result ≡ is_elision (last_of (known self.now).buffer) }
+        ensures hidden { IfSome result (λ m. m.now ≡ flags_of (last_of (known self.now).buffer)) }
+    {
+        match self {
+            Held::Base(_) => None,
+            Held::Projection { projection, .. } => {
+                // It has a version.
+                let _now = projection.now();
+                None
+            }
+            Held::Elision { elision, .. } => Some(elision.hidden(elision.now())),
+        }
+    }
+
+    /// The members of the current version of a projection or an elision buffer. A base has none.
     pub fn members(&self) -> Option<&Members>
         ensures carrier { is_some result ≡ is_carrier (last_of (known self.now).buffer) }
         ensures members { IfSome result (λ m. m.now ≡ members_of (last_of (known self.now).buffer)) }
@@ -272,6 +319,7 @@ impl Held {
         match self {
             Held::Base(_) => None,
             Held::Projection { projection, .. } => Some(projection.members(projection.now())),
+            Held::Elision { elision, .. } => Some(elision.members(elision.now())),
         }
     }
 
@@ -282,6 +330,7 @@ impl Held {
         match self {
             Held::Base(_) => None,
             Held::Projection { projection, .. } => projection.resolver().as_ref(),
+            Held::Elision { elision, .. } => elision.resolver().as_ref(),
         }
     }
 }

@@ -44,6 +44,6 @@ pub fn landing(
 {
     match held {
         Held::Base(base) => base_landing(alloc, hooks, base, pieces),
-        Held::Projection { .. } => unreachable!(),
+        Held::Projection { .. } | Held::Elision { .. } => unreachable!(),
     }
 }

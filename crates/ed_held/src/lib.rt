@@ -3,12 +3,14 @@
 #![tactic(auto)]
 
 mod advances;
+mod elides;
 mod held;
 mod lands;
 mod moves;
 mod respans;
 
 pub use advances::planned;
+pub use elides::rehide;
 pub use held::Held;
 pub use lands::landing;
 pub use moves::{Move, Planned};

@@ -10,6 +10,7 @@ ghost use Rattle.ed_held.specs.Moves.{changes_of, record_of, snapshot_of};
 
 use ed_base::{BufferNo, Changes, OutOfMemory};
 use ed_buffer::BaseStep;
+use ed_elide as elide;
 use ed_members::{Members, SourceStep};
 use ed_pieces::Trails;
 use ed_project::NextRecord;
@@ -21,6 +22,7 @@ use std::alloc::Global;
 pub enum Planned {
     Base(BaseStep),
     Projection(NextRecord),
+    Elision(elide::NextRecord),
 }
 
 /// A version that was planned, the buffer that it will be a version of, and the ways by which the
@@ -40,6 +42,7 @@ impl Planned {
         match self {
             Planned::Base(step) => step.changes(),
             Planned::Projection(next) => next.changes(),
+            Planned::Elision(next) => next.changes(),
         }
     }
 
@@ -54,6 +57,7 @@ impl Planned {
         match self {
             Planned::Base(step) => step.snapshot(),
             Planned::Projection(next) => next.snapshot(),
+            Planned::Elision(next) => next.snapshot(),
         }
     }
 
@@ -65,6 +69,7 @@ impl Planned {
         match self {
             Planned::Base(_) => None,
             Planned::Projection(next) => Some(next.members()),
+            Planned::Elision(next) => Some(next.members()),
         }
     }
 
@@ -92,7 +97,13 @@ impl Planned {
                 let members = next.members();
                 // The members are counted for what is known of their order.
                 let _count = members.count();
-                members.trails(alloc, me, steps)
+                members.trails(alloc, me, false, steps)
+            }
+            Planned::Elision(next) => {
+                let members = next.members();
+                // The members are counted for what is known of their order.
+                let _count = members.count();
+                members.trails(alloc, me, true, steps)
             }
         }
     }

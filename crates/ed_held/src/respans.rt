@@ -40,6 +40,11 @@ pub fn members_with(
                 .members(projection.now())
                 .joined(alloc, first, removed, members)
         }
+        Held::Elision { elision, .. } => {
+            // It has a version.
+            let _now = elision.now();
+            unreachable!()
+        }
     }
 }
 
@@ -91,6 +96,11 @@ pub fn respan(
                 Ok(next) => Ok(Planned::Projection(next)),
                 Err(fault) => Err(fault),
             }
+        }
+        Held::Elision { elision, .. } => {
+            // It has a version.
+            let _now = elision.now();
+            unreachable!()
         }
     }
 }

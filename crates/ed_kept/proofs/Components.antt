@@ -13,7 +13,7 @@ use Rattle.ed_kept.specs.declared.kept.KeptRun.{KeptRun}
 use Rattle.ed_kept.specs.Kept.{ArePairsRising, pairs_of, run_pairs}
 use Rattle.ed_kept.proofs.Rising.{run_behind, rising_within}
 
-length_part : (text : List ℕ) (j q : ℕ) → j ≤ q → q ≤ length text → length (slice_range text j q) ≡ q - j
+pub length_part : (text : List ℕ) (j q : ℕ) → j ≤ q → q ≤ length text → length (slice_range text j q) ≡ q - j
 length_part text j q order within = omega (arith, length-take (q - j) (drop j text), length-drop j text)
 
 -- a gap in which nothing is, and one in which something is

@@ -59,6 +59,15 @@ projection name members = Command.Projection name members None
 abbrev spans : List ℕ → ℕ → ℕ → List ScriptSpan → Command
 spans name first count added = Command.Spans name first count added None
 
+abbrev pair : ℕ → ℕ → Span
+pair s l = record { start = s; len = l }
+
+abbrev elision : List ℕ → List ℕ → List Span → Command
+elision name source hide = Command.Elision name source hide None
+
+abbrev elide : List ℕ → List Span → List Span → Command
+elide name hide show = Command.Elide name hide show None
+
 abbrev text : List ℕ → Command
 text name = Command.Text name None
 
@@ -76,6 +85,9 @@ changes old_len start gone units = Reply.Changes (list old_len start gone units)
 
 abbrev a : List ℕ
 a = codes "a"
+
+abbrev e : List ℕ
+e = codes "e"
 
 abbrev p : List ℕ
 p = codes "p"
@@ -254,3 +266,65 @@ not_sent : replies (
     ∷ shown 0 1 (codes "aXb") ∷ shown 1 1 (codes "aX--b") ∷ []
 unfolding machine_on_literals
 not_sent = refl
+
+-- ---- elision buffers
+
+-- what is typed among hidden text is hidden, and beside shown text it is shown; where all is hidden nothing can be put in
+hidden_among : replies (
+    Command.Buffer a (codes "abcdefghi")
+    ∷ elision e a (pair 3 3 ∷ [])
+    ∷ edit a (r 4 0 (codes "X") ∷ r 3 0 (codes "Y") ∷ [])
+    ∷ text e
+    ∷ Command.Nearest e 5
+    ∷ elide e (pair 0 11 ∷ []) []
+    ∷ edit e (r 0 0 (codes "Q") ∷ []) ∷ [])
+    ≡ Reply.Made 0 ∷ Reply.Made 1 ∷ Reply.Edited ((0, 1) ∷ (1, 1) ∷ [])
+    ∷ shown 1 1 (codes "abcYghi")
+    ∷ Reply.At 4 ∷ Reply.Edited ((1, 2) ∷ []) ∷ Reply.Refused (Refusal.NoPlace 1 0) ∷ []
+unfolding machine_on_literals
+hidden_among = refl
+
+-- an edit of a projection over an elision buffer goes through both, at the last place that could take it; what is shown again rises
+over_elision : replies (
+    Command.Buffer a (codes "abcdef")
+    ∷ elision e a (pair 2 2 ∷ [])
+    ∷ projection p (exclusive e 0 4 ∷ [])
+    ∷ text e ∷ text p
+    ∷ edit p (r 2 0 (codes "X") ∷ [])
+    ∷ text a ∷ text e ∷ text p
+    ∷ elide e [] (pair 2 1 ∷ [])
+    ∷ text e ∷ [])
+    ≡ Reply.Made 0 ∷ Reply.Made 1 ∷ Reply.Made 2 ∷ shown 1 0 (codes "abef") ∷ shown 2 0 (codes "abef")
+    ∷ Reply.Edited ((0, 1) ∷ (1, 1) ∷ (2, 1) ∷ [])
+    ∷ shown 0 1 (codes "abcdXef") ∷ shown 1 1 (codes "abXef") ∷ shown 2 1 (codes "abXef")
+    ∷ Reply.Edited ((1, 2) ∷ (2, 2) ∷ [])
+    ∷ shown 1 2 (codes "abcXef") ∷ []
+unfolding machine_on_literals
+over_elision = refl
+
+-- the refusals in their order, and what hides nothing anew
+elisions_refused : replies (
+    Command.Buffer a (codes "abc")
+    ∷ elision a (codes "z") []
+    ∷ elision a a (pair 0 9 ∷ [])
+    ∷ elision e a (pair 0 3 ∷ pair 1 3 ∷ pair 0 5 ∷ [])
+    ∷ Command.Elision e a (pair 4 0 ∷ []) (Some (codes "last"))
+    ∷ Command.Elision e a [] (Some (codes "last"))
+    ∷ elision e a (pair 1 1 ∷ [])
+    ∷ Command.Elide (codes "z") [] [] (Some 1)
+    ∷ Command.Elide a (pair 0 4 ∷ []) [] (Some 1)
+    ∷ Command.Elide e (pair 0 4 ∷ []) [] (Some 1)
+    ∷ elide e (pair 0 4 ∷ []) (pair 0 5 ∷ [])
+    ∷ elide e (pair 0 3 ∷ []) (pair 0 5 ∷ [])
+    ∷ elide e (pair 0 2 ∷ []) (pair 0 1 ∷ [])
+    ∷ Command.Nearest a 4
+    ∷ Command.Nearest e 4
+    ∷ Command.Nearest e 3 ∷ [])
+    ≡ Reply.Made 0 ∷ Reply.Refused Refusal.NoBuffer ∷ Reply.Refused Refusal.NameTaken
+    ∷ Reply.Refused (Refusal.OutOfRange 4 3) ∷ Reply.Refused (Refusal.OutOfRange 4 3) ∷ Reply.Refused (Refusal.NoSuch What.Hook)
+    ∷ Reply.Made 1
+    ∷ Reply.Refused Refusal.NoBuffer ∷ Reply.Refused Refusal.WrongKind ∷ Reply.Refused (Refusal.Stale 0)
+    ∷ Reply.Refused (Refusal.OutOfRange 4 3) ∷ Reply.Refused (Refusal.OutOfRange 5 3) ∷ Reply.Edited []
+    ∷ Reply.Refused Refusal.WrongKind ∷ Reply.Refused (Refusal.OutOfRange 4 3) ∷ Reply.At 2 ∷ []
+unfolding machine_on_literals
+elisions_refused = refl

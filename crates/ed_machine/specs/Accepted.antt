@@ -12,14 +12,15 @@ use Rattle.ed_base.specs.Hooks.{HookTable, named}
 use Rattle.ed_base.specs.Denial.{Region, denied_at}
 use Rattle.ed_lines.specs.Lines.{lines}
 use Rattle.ed_layers.specs.Records.{Record, base}
+use Rattle.ed_layers.specs.Hidden.{nearest}
 use Rattle.ed_stock.specs.Stock.{Buffer}
 use Rattle.ed_stock.specs.Versions.{Rising, versions_made, none_given}
 use Rattle.ed_stock.specs.Landing.{pieces_of_edit, sent_down, landed}
-use Rattle.ed_stock.specs.Making.{with_new, projection_of, spans_set}
+use Rattle.ed_stock.specs.Making.{with_new, projection_of, elision_of, spans_set, elide_set, flags_of}
 use Rattle.ed_script.specs.declared.Command.{Command}
 use Rattle.ed_version.specs.declared.Snapshot.{Snapshot}
 use Rattle.ed_entry.specs.declared.Reply.{Reply}
-use Rattle.ed_machine.specs.State.{State, number, buffer, now, text_at, steps_of, reiterated, count, with_stock, with_buffer}
+use Rattle.ed_machine.specs.State.{State, number, buffer, now, record_now, text_at, steps_of, reiterated, count, with_stock, with_buffer}
 use Rattle.ed_machine.specs.Naming.{members}
 
 pub record Outcome : Type 0 where
@@ -84,8 +85,10 @@ span_of start len = record { start = start; len = len }
 unfoldable pub accepted : HookTable → State → Command → Outcome
 accepted hooks s (Command.Buffer name text) = made s name (base text 0) None
 accepted hooks s (Command.Projection name spans resolver) = made s name (projection_of s.stock (members s spans)) resolver
+accepted hooks s (Command.Elision name source hide resolver) = made s name (elision_of s.stock (number s source) hide) resolver
 accepted hooks s (Command.Edit name replaces at) = edit_group s (sent_down hooks s.stock (pieces_of_edit s.stock (number s name) replaces))
 accepted hooks s (Command.Spans name first count spans at) = edited_to s (spans_set s.stock (number s name) first count (members s spans))
+accepted hooks s (Command.Elide name hide show at) = edited_to s (elide_set s.stock (number s name) hide show)
 accepted hooks s (Command.Region name start len edge mode query) =
     let b : ℕ = number s name in
     let x : Buffer = buffer s b in
@@ -98,3 +101,4 @@ accepted hooks s (Command.Changes name from) = answers s (Reply.Changes (changes
 accepted hooks s (Command.Versions name) = let b : ℕ = number s name in answers s (Reply.Versions (map (reiterated s b) (places (now s b + 1))))
 accepted hooks s (Command.Point name p mode at to) = answers s (Reply.At (tracked_to (tracked_point mode) s (number s name) p at to))
 accepted hooks s (Command.Span name start len how at to) = answers s (Reply.Span (tracked_to (span_move hooks how) s (number s name) (span_of start len) at to))
+accepted hooks s (Command.Nearest name p) = answers s (Reply.At (nearest (flags_of (record_now s (number s name))) p))

@@ -1,6 +1,7 @@
 -- Why a command is refused, but for limits.
-use Rattle.std.specs.Prelude.{ℕ, ◌+◌, Bool, not, ◌&&◌, List, [], ◌∷◌, length, map, find, nat_eq, nat_lt, Option, Some, None, option_map, option_and_then, unwrap_or, is_some, is_none, if◌then◌else◌}
+use Rattle.std.specs.Prelude.{ℕ, ◌+◌, Bool, not, ◌&&◌, List, [], ◌∷◌, ◌++◌, length, map, find, nat_eq, nat_lt, Option, Some, None, option_map, option_and_then, unwrap_or, is_some, is_none, if◌then◌else◌}
 use Rattle.std.specs.List.{list_any}
+use Rattle.ed_base.specs.declared.Span.{Span}
 use Rattle.ed_base.specs.declared.ScriptSpan.{ScriptSpan}
 use Rattle.ed_base.specs.declared.SpanHow.{SpanHow}
 use Rattle.ed_base.specs.declared.Refusal.{Refusal}
@@ -8,12 +9,13 @@ use Rattle.ed_base.specs.declared.What.{What}
 use Rattle.ed_base.specs.declared.Member.{Member}
 use Rattle.ed_base.specs.declared.Piece.{Piece}
 use Rattle.ed_base.specs.Numbers.{first_some}
+use Rattle.ed_base.specs.Spans.{end_of}
 use Rattle.ed_base.specs.Hooks.{HookTable, named}
 use Rattle.ed_layers.specs.Records.{Record, is_carrier, is_elision, members_of}
 use Rattle.ed_layers.specs.Order.{mode_fault, overlap_fault}
 use Rattle.ed_stock.specs.Landing.{pieces_of_edit, sent_down, down_fault, denial}
 use Rattle.ed_stock.specs.Linking.{cycle, depth}
-use Rattle.ed_stock.specs.Making.{spans_replaced, sources_in}
+use Rattle.ed_stock.specs.Making.{spans_replaced, sources_in, flags_of}
 use Rattle.ed_script.specs.declared.Command.{Command}
 use Rattle.ed_machine.specs.State.{State, number_of, number, buffer, now, record_at, record_now, text_at, text_now, count}
 use Rattle.ed_machine.specs.Naming.{members, names_in}
@@ -51,6 +53,9 @@ stale s b at = option_and_then (λ v. refused_if (not (nat_eq v (now s b))) (Ref
 abbrev pub past : List ℕ → ℕ → Option Refusal
 past ends len = option_map (λ end. Refusal.OutOfRange end len) (find (nat_lt len) ends)
 
+abbrev pub ends_of : List Span → List ℕ
+ends_of spans = map end_of spans
+
 abbrev pub len_now : State → ℕ → ℕ
 len_now s b = length (text_now s b)
 
@@ -67,6 +72,10 @@ abbrev pub past_spans : State → List ScriptSpan → Option Refusal
 past_spans s [] = None
 past_spans s (ScriptSpan.Literal units ∷ ss) = past_spans s ss
 past_spans s (ScriptSpan.Tracked name start len mode ∷ ss) = first_some (past_now s (number s name) (start + len) ∷ past_spans s ss ∷ [])
+
+-- of the source of an elision buffer
+abbrev pub past_source : State → ℕ → List ℕ → Option Refusal
+past_source s b ends = past ends (length (flags_of (record_now s b)))
 
 -- ---- things that aren't there
 
@@ -92,6 +101,9 @@ tests hooks s (Command.Projection name spans resolver) =
     let shown : List Member = members s spans in
     no_buffer s (names_in spans) ∷ name_taken s name ∷ past_spans s spans ∷ mode_fault (len_now s) shown ∷ overlap_fault shown
     ∷ depth s.stock (count s + 1) (count s) (sources_in [] shown) ∷ no_hook hooks.resolvers resolver ∷ []
+tests hooks s (Command.Elision name source hide resolver) =
+    let b : ℕ = number s source in
+    no_buffer s (source ∷ []) ∷ name_taken s name ∷ past (ends_of hide) (len_now s b) ∷ depth s.stock (count s + 1) (count s) (b ∷ []) ∷ no_hook hooks.resolvers resolver ∷ []
 tests hooks s (Command.Edit name replaces at) =
     let b : ℕ = number s name in
     let pieces : List (ℕ × Piece) = pieces_of_edit s.stock b replaces in
@@ -102,6 +114,9 @@ tests hooks s (Command.Spans name first number_replaced spans at) =
     let shown : List Member = spans_replaced (members_of (record_now s b)) first number_replaced added in
     no_buffer s (name ∷ names_in spans) ∷ wrong_kind s b is_projection ∷ stale s b at ∷ past ((first + number_replaced) ∷ []) (length (members_of (record_now s b))) ∷ past_spans s spans
     ∷ mode_fault (len_now s) shown ∷ overlap_fault shown ∷ cycle s.stock b added ∷ depth s.stock (count s) b (sources_in [] shown) ∷ []
+tests hooks s (Command.Elide name hide show at) =
+    let b : ℕ = number s name in
+    no_buffer s (name ∷ []) ∷ wrong_kind s b is_elision ∷ stale s b at ∷ past_source s b (ends_of hide ++ ends_of show) ∷ []
 tests hooks s (Command.Region name start len edge mode query) =
     let b : ℕ = number s name in
     no_buffer s (name ∷ []) ∷ wrong_kind s b is_base ∷ past_now s b (start + len) ∷ no_hook hooks.queries query ∷ []
@@ -117,6 +132,7 @@ tests hooks s (Command.Point name p mode at to) =
 tests hooks s (Command.Span name start len how at to) =
     let b : ℕ = number s name in
     no_buffer s (name ∷ []) ∷ past_version s b at (start + len) ∷ no_version s b at ∷ no_version s b to ∷ no_hook hooks.customs (custom_name how) ∷ []
+tests hooks s (Command.Nearest name p) = no_buffer s (name ∷ []) ∷ wrong_kind s (number s name) is_elision ∷ past_source s (number s name) (p ∷ []) ∷ []
 
 abbrev pub refusal : HookTable → State → Command → Option Refusal
 refusal hooks s command = first_some (tests hooks s command)

@@ -1,6 +1,6 @@
 -- The ways of a source's units, handed up to the units of a carrier.
 use Rattle.std.proofs.Common.{◌≡◌, ◌≢◌, ℕ, zero, suc, ◌+◌, ◌-◌, ◌<◌, ◌≤◌, Bool, true, false, ◌&&◌, inl, inr, List, [], ◌∷◌, ◌++◌, length, map, drop, take, get_or, Option, Some, None, refl, sym, ap, subst, ◌∙◌, arith}
-use Rattle.std.specs.Prelude.{nat_eq, nat_lt, flat_map, max, min, slice_get, MatchOption}
+use Rattle.std.specs.Prelude.{nat_eq, nat_lt, flat_map, max, min, slice_get, MatchOption, if◌then◌else◌}
 use Rattle.std.specs.Option.{option_map_or}
 use Rattle.std.specs.List.{range_with_len, enumerate_from}
 use Rattle.std.specs.List.Sorted.{IsNonDecreasingBy}
@@ -35,17 +35,17 @@ use Rattle.ed_members.proofs.Ranges.{place_in, in_place}
 -- ---- one trail
 
 -- whether it goes on, by the member that it names last
-goes_on_is : (me i : ℕ) (trail : List (ℕ × ℕ)) (o : Option ℕ) → o ≡ owner_in me trail → goes_on me i trail ≡ (option_map_or (λ j. nat_eq j i) o false && nat_lt 1 (length trail))
-goes_on_is me i trail o is = ap (λ b. b && nat_lt 1 (length trail)) (owner_ends me (λ j. nat_eq j i) trail ∙ ap (λ (o : Option ℕ). option_map_or (λ j. nat_eq j i) o false) (sym is))
+goes_on_is : (me : ℕ) (any : Bool) (i : ℕ) (trail : List (ℕ × ℕ)) (o : Option ℕ) → o ≡ owner_in me trail → goes_on me any i trail ≡ (option_map_or (λ j. if any then true else nat_eq j i) o false && nat_lt 1 (length trail))
+goes_on_is me any i trail o is = ap (λ b. b && nat_lt 1 (length trail)) (owner_ends me (λ j. if any then true else nat_eq j i) trail ∙ ap (λ (o : Option ℕ). option_map_or (λ j. if any then true else nat_eq j i) o false) (sym is))
 
-pub goes_on_named : (me i owner : ℕ) (trail : List (ℕ × ℕ)) → Some owner ≡ owner_in me trail → owner ≡ i → nat_lt 1 (length trail) ≡ goes_on me i trail
-goes_on_named me i owner trail is same = sym (goes_on_is me i trail (Some owner) is ∙ rw (eq-eqb owner i same) refl)
+pub goes_on_own : (me : ℕ) (any : Bool) (i owner : ℕ) (trail : List (ℕ × ℕ)) → Some owner ≡ owner_in me trail → (if any then true else nat_eq owner i) ≡ true → nat_lt 1 (length trail) ≡ goes_on me any i trail
+goes_on_own me any i owner trail is own = sym (goes_on_is me any i trail (Some owner) is ∙ ap (λ b. b && nat_lt 1 (length trail)) own)
 
-pub goes_on_other : (me i owner : ℕ) (trail : List (ℕ × ℕ)) → Some owner ≡ owner_in me trail → owner ≢ i → nat_eq owner i ≡ goes_on me i trail
-goes_on_other me i owner trail is other = ne_eqb owner i other ∙ sym (goes_on_is me i trail (Some owner) is ∙ rw (ne_eqb owner i other) refl)
+pub goes_on_other : (me : ℕ) (any : Bool) (i owner : ℕ) (trail : List (ℕ × ℕ)) → Some owner ≡ owner_in me trail → (if any then true else nat_eq owner i) ≡ false → false ≡ goes_on me any i trail
+goes_on_other me any i owner trail is other = sym (goes_on_is me any i trail (Some owner) is ∙ ap (λ b. b && nat_lt 1 (length trail)) other)
 
-pub goes_on_none : (me i : ℕ) (trail : List (ℕ × ℕ)) → None ≡ owner_in me trail → false ≡ goes_on me i trail
-goes_on_none me i trail is = sym (goes_on_is me i trail None is)
+pub goes_on_none : (me : ℕ) (any : Bool) (i : ℕ) (trail : List (ℕ × ℕ)) → None ≡ owner_in me trail → false ≡ goes_on me any i trail
+goes_on_none me any i trail is = sym (goes_on_is me any i trail None is)
 
 pub without_last_is : (trail : List (ℕ × ℕ)) → take (length trail - 1) trail ≡ without_last trail
 without_last_is [] = refl
@@ -55,9 +55,9 @@ without_last_is (p ∷ q ∷ ps) =
     ∙ ap (λ rest. p ∷ rest) (without_last_is (q ∷ ps))
 
 -- a trail that doesn't go on has nothing to hand up
-ends_here : (me i : ℕ) (trail : List (ℕ × ℕ)) → goes_on me i trail ≡ false → trail_above me (λ j. nat_eq j i) trail ≡ []
-ends_here me i trail ends = elim (cases_Bool (ends_with me (λ j. nat_eq j i) trail)) [
-  | inl t ↦ rw t (short trail (let e : nat_lt 1 (length trail) ≡ false = sym (ap (λ b. b && nat_lt 1 (length trail)) t) ∙ ends in e))
+ends_here : (me : ℕ) (any : Bool) (i : ℕ) (trail : List (ℕ × ℕ)) → goes_on me any i trail ≡ false → trail_above me (λ j. if any then true else nat_eq j i) trail ≡ []
+ends_here me any i trail ends = elim (cases_Bool (ends_with me (λ j. if any then true else nat_eq j i) trail)) [
+  | inl t ↦ rw t (short trail (let f : nat_lt 1 (length trail) ≡ false = sym (ap (λ b. b && nat_lt 1 (length trail)) t) ∙ ends in f))
   | inr f ↦ rw f refl
 ]
   where
@@ -124,23 +124,23 @@ trail_second a b q (x ∷ xs) ys lie behind =
 
 -- ---- the runs of a source and those above them
 
-module _ (me i p : ℕ) (bounds : Span) where
+module _ (me : ℕ) (any : Bool) (i p : ℕ) (bounds : Span) where
   abbrev above : List TrailRun → List TrailRun
-  above runs = flat_map (run_above me i p bounds) runs
+  above runs = flat_map (run_above me any i p bounds) runs
 
   abbrev run_shown : TrailRun → TrailRun
   run_shown run = record { span = place_above p bounds run.span; trail = without_last run.trail }
 
-  shown_is : (run : TrailRun) → shares_unit run.span bounds ≡ true → goes_on me i run.trail ≡ true → run_above me i p bounds run ≡ run_shown run ∷ []
+  shown_is : (run : TrailRun) → shares_unit run.span bounds ≡ true → goes_on me any i run.trail ≡ true → run_above me any i p bounds run ≡ run_shown run ∷ []
   shown_is run shares on = rw (shares, on) refl
 
-  apart_is : (run : TrailRun) → shares_unit run.span bounds ≡ false → run_above me i p bounds run ≡ []
+  apart_is : (run : TrailRun) → shares_unit run.span bounds ≡ false → run_above me any i p bounds run ≡ []
   apart_is run apart = rw apart refl
 
-  ended_is : (run : TrailRun) → goes_on me i run.trail ≡ false → run_above me i p bounds run ≡ []
+  ended_is : (run : TrailRun) → goes_on me any i run.trail ≡ false → run_above me any i p bounds run ≡ []
   ended_is run ends = elim (cases_Bool (shares_unit run.span bounds)) [ inl t ↦ rw (t, ends) refl | inr f ↦ rw f refl ]
 
-  with_run : (run : TrailRun) (runs here : List TrailRun) → run_above me i p bounds run ≡ here → above (run ∷ runs) ≡ here ++ above runs
+  with_run : (run : TrailRun) (runs here : List TrailRun) → run_above me any i p bounds run ≡ here → above (run ∷ runs) ≡ here ++ above runs
   with_run run runs here is = ap (λ xs. xs ++ above runs) is
 
   -- where a place of the source lies above, or the nearest place to it
@@ -155,37 +155,37 @@ module _ (me i p : ℕ) (bounds : Span) where
       let passed : LieBetween (placed a) (p + bounds.len) (above runs) = lie_lower (placed a) (placed (end_of run.span)) (p + bounds.len) (above runs) (omega arith) rest in
       elim (cases_lt (max run.span.start bounds.start) (min (end_of run.span) (end_of bounds))) [
         | inr apart ↦ subst (λ xs. LieBetween (placed a) (p + bounds.len) xs) (sym (with_run run runs [] (apart_is run (let f : shares_unit run.span bounds ≡ false = grind (arith, nat_tests) in f)))) passed
-        | inl shares ↦ elim (cases_Bool (goes_on me i run.trail)) [
+        | inl shares ↦ elim (cases_Bool (goes_on me any i run.trail)) [
           | inr ends ↦ subst (λ xs. LieBetween (placed a) (p + bounds.len) xs) (sym (with_run run runs [] (ended_is run ends))) passed
           | inl on ↦ subst (λ xs. LieBetween (placed a) (p + bounds.len) xs) (sym (with_run run runs (run_shown run ∷ []) (shown_is run (lt-ltb _ _ shares) on)))
               (omega arith, lie_lower (end_of (run_shown run).span) (placed (end_of run.span)) (p + bounds.len) (above runs) (omega arith) rest)
         ]
       ]
 
-  above_trail : (a q : ℕ) (runs : List TrailRun) → AreRising a runs → bounds.start ≤ q → q < end_of bounds → trail_in (above runs) (p + (q - bounds.start)) ≡ trail_above me (λ j. nat_eq j i) (trail_in runs q)
+  above_trail : (a q : ℕ) (runs : List TrailRun) → AreRising a runs → bounds.start ≤ q → q < end_of bounds → trail_in (above runs) (p + (q - bounds.start)) ≡ trail_above me (λ j. if any then true else nat_eq j i) (trail_in runs q)
   above_trail a q [] rising from to = refl
   above_trail a q (run ∷ runs) rising from to = with_rest (above_trail (end_of run.span) q runs rising.1 from to)
     where
-      with_rest : trail_in (above runs) (p + (q - bounds.start)) ≡ trail_above me (λ j. nat_eq j i) (trail_in runs q) → trail_in (above (run ∷ runs)) (p + (q - bounds.start)) ≡ trail_above me (λ j. nat_eq j i) (trail_in (run ∷ runs) q)
+      with_rest : trail_in (above runs) (p + (q - bounds.start)) ≡ trail_above me (λ j. if any then true else nat_eq j i) (trail_in runs q) → trail_in (above (run ∷ runs)) (p + (q - bounds.start)) ≡ trail_above me (λ j. if any then true else nat_eq j i) (trail_in (run ∷ runs) q)
       with_rest rest = elim (cases_Bool (holds_place run.span q)) [
         | inl t ↦ (let k : (run.span.start ≤ q) × (q < end_of run.span) = in_place run.span q t in
             let k0 : run.span.start ≤ q = k.0 in
             let k1 : q < end_of run.span = k.1 in
             let shares : max run.span.start bounds.start < min (end_of run.span) (end_of bounds) = omega arith in
-            elim (cases_Bool (goes_on me i run.trail)) [
-              | inl on ↦ (let ends : ends_with me (λ j. nat_eq j i) run.trail ≡ true = (and_parts _ _ on).0 in
+            elim (cases_Bool (goes_on me any i run.trail)) [
+              | inl on ↦ (let ends : ends_with me (λ j. if any then true else nat_eq j i) run.trail ≡ true = (and_parts _ _ on).0 in
                   ap (λ xs. trail_in xs (p + (q - bounds.start))) (with_run run runs (run_shown run ∷ []) (shown_is run (lt-ltb _ _ shares) on))
                   ∙ trail_here (run_shown run) (above runs) (p + (q - bounds.start)) (place_in (run_shown run).span (p + (q - bounds.start)) (omega arith) (omega arith))
-                  ∙ sym (ap (trail_above me (λ j. nat_eq j i)) (trail_here run runs q t) ∙ rw ends refl))
+                  ∙ sym (ap (trail_above me (λ j. if any then true else nat_eq j i)) (trail_here run runs q t) ∙ rw ends refl))
               | inr ends ↦ ap (λ xs. trail_in xs (p + (q - bounds.start))) (with_run run runs [] (ended_is run ends))
                   ∙ rest
-                  ∙ ap (trail_above me (λ j. nat_eq j i)) (trail_before (end_of run.span) q runs rising.1 k1)
-                  ∙ sym (ap (trail_above me (λ j. nat_eq j i)) (trail_here run runs q t) ∙ ends_here me i run.trail ends)
+                  ∙ ap (trail_above me (λ j. if any then true else nat_eq j i)) (trail_before (end_of run.span) q runs rising.1 k1)
+                  ∙ sym (ap (trail_above me (λ j. if any then true else nat_eq j i)) (trail_here run runs q t) ∙ ends_here me any i run.trail ends)
             ])
-        | inr f ↦ by_shown (shares_unit run.span bounds) (goes_on me i run.trail) refl refl f ∙ sym (ap (trail_above me (λ j. nat_eq j i)) (trail_later run runs q f))
+        | inr f ↦ by_shown (shares_unit run.span bounds) (goes_on me any i run.trail) refl refl f ∙ sym (ap (trail_above me (λ j. if any then true else nat_eq j i)) (trail_later run runs q f))
       ]
         where
-          by_shown : (s g : Bool) → shares_unit run.span bounds ≡ s → goes_on me i run.trail ≡ g → holds_place run.span q ≡ false → trail_in (above (run ∷ runs)) (p + (q - bounds.start)) ≡ trail_above me (λ j. nat_eq j i) (trail_in runs q)
+          by_shown : (s g : Bool) → shares_unit run.span bounds ≡ s → goes_on me any i run.trail ≡ g → holds_place run.span q ≡ false → trail_in (above (run ∷ runs)) (p + (q - bounds.start)) ≡ trail_above me (λ j. if any then true else nat_eq j i) (trail_in runs q)
           by_shown false g s_is g_is f = ap (λ xs. trail_in xs (p + (q - bounds.start))) (with_run run runs [] (apart_is run s_is)) ∙ rest
           by_shown true false s_is g_is f = ap (λ xs. trail_in xs (p + (q - bounds.start))) (with_run run runs [] (ended_is run g_is)) ∙ rest
           by_shown true true s_is g_is f =
@@ -244,16 +244,16 @@ same_each f g h a b (suc n) same =
 abbrev slot_at : ℕ → Option ℕ → ℕ → Slot
 slot_at i source p = record { member = i; source = source; place = p }
 
-module _ (me i p : ℕ) (steps : ℕ → Option layers.SourceStep) (old : List TrailRun) (lie : LieBetween 0 p old) where
+module _ (me : ℕ) (any : Bool) (i p : ℕ) (steps : ℕ → Option layers.SourceStep) (old : List TrailRun) (lie : LieBetween 0 p old) where
   abbrev ways : Member → List (List (ℕ × ℕ))
-  ways m = map (slot_trail me false steps) (member_slots (i, m))
+  ways m = map (slot_trail me any steps) (member_slots (i, m))
 
   -- a literal has none, nor has a member whose source didn't step
   pub literal_further : (units : List ℕ) → SayFurther old old p (length units) (ways (Member.Literal units))
   literal_further units = record {
     lie = lie_longer (length units);
     before = λ q l. refl;
-    here = same_each (trail_in old) (slot_trail me false steps) (slot_at i None) p 0 (length units) (λ k l. trail_behind 0 p (p + k) old lie (omega arith));
+    here = same_each (trail_in old) (slot_trail me any steps) (slot_at i None) p 0 (length units) (λ k l. trail_behind 0 p (p + k) old lie (omega arith));
   }
     where
       lie_longer : (n : ℕ) → LieBetween 0 (p + n) old
@@ -263,28 +263,28 @@ module _ (me i p : ℕ) (steps : ℕ → Option layers.SourceStep) (old : List T
   resting_further source bounds mode none = record {
     lie = subst (λ xs. LieBetween 0 (p + bounds.len) xs) (append-nil old) (lie_append 0 p (p + bounds.len) old [] lie (omega arith));
     before = λ q l. refl;
-    here = same_each (trail_in old) (slot_trail me false steps) (slot_at i (Some source)) p bounds.start bounds.len
+    here = same_each (trail_in old) (slot_trail me any steps) (slot_at i (Some source)) p bounds.start bounds.len
         (λ k l. trail_behind 0 p (p + k) old lie (omega arith) ∙ sym (rw none refl));
   }
 
-  pub stepped_further : (source : ℕ) (bounds : Span) (mode : SpanMode) (s : SourceStep) (new : List TrailRun) → steps source ≡ Some (step_seen s) → IsSound s → end_of bounds ≤ (step s.changes).new_len → new ≡ old ++ flat_map (run_above me i p bounds) s.trails
+  pub stepped_further : (source : ℕ) (bounds : Span) (mode : SpanMode) (s : SourceStep) (new : List TrailRun) → steps source ≡ Some (step_seen s) → IsSound s → end_of bounds ≤ (step s.changes).new_len → new ≡ old ++ flat_map (run_above me any i p bounds) s.trails
       → SayFurther old new p bounds.len (ways (Member.Tracked source bounds mode))
   stepped_further source bounds mode s new is sound within put = subst (λ xs. SayFurther old xs p bounds.len (ways (Member.Tracked source bounds mode))) (sym put) (record {
-    lie = lie_append 0 p (p + bounds.len) old (flat_map (run_above me i p bounds) s.trails) lie more;
-    before = λ q l. trail_first 0 p (p + bounds.len) q old (flat_map (run_above me i p bounds) s.trails) lie more l;
-    here = same_each (trail_in (old ++ flat_map (run_above me i p bounds) s.trails)) (slot_trail me false steps) (slot_at i (Some source)) p bounds.start bounds.len (λ k l. each k l);
+    lie = lie_append 0 p (p + bounds.len) old (flat_map (run_above me any i p bounds) s.trails) lie more;
+    before = λ q l. trail_first 0 p (p + bounds.len) q old (flat_map (run_above me any i p bounds) s.trails) lie more l;
+    here = same_each (trail_in (old ++ flat_map (run_above me any i p bounds) s.trails)) (slot_trail me any steps) (slot_at i (Some source)) p bounds.start bounds.len (λ k l. each k l);
   })
     where
-      more : LieBetween p (p + bounds.len) (flat_map (run_above me i p bounds) s.trails)
-      more = lie_lower p (p + min (0 - bounds.start) bounds.len) (p + bounds.len) (flat_map (run_above me i p bounds) s.trails) (omega arith) (above_lie me i p bounds 0 s.trails sound.rising)
+      more : LieBetween p (p + bounds.len) (flat_map (run_above me any i p bounds) s.trails)
+      more = lie_lower p (p + min (0 - bounds.start) bounds.len) (p + bounds.len) (flat_map (run_above me any i p bounds) s.trails) (omega arith) (above_lie me any i p bounds 0 s.trails sound.rising)
 
-      each : (k : ℕ) → k < bounds.len → trail_in (old ++ flat_map (run_above me i p bounds) s.trails) (p + k) ≡ slot_trail me false steps (slot_at i (Some source) (bounds.start + k))
+      each : (k : ℕ) → k < bounds.len → trail_in (old ++ flat_map (run_above me any i p bounds) s.trails) (p + k) ≡ slot_trail me any steps (slot_at i (Some source) (bounds.start + k))
       each k l =
           let size : (step s.changes).new_len ≡ new_len s.changes = normal_new_len s.changes sound.normal in
-          trail_second 0 p (p + k) old (flat_map (run_above me i p bounds) s.trails) lie (omega arith)
-          ∙ ap (λ q. trail_in (flat_map (run_above me i p bounds) s.trails) (p + q)) (let e : k ≡ (bounds.start + k) - bounds.start = omega arith in e)
-          ∙ above_trail me i p bounds 0 (bounds.start + k) s.trails sound.rising (omega arith) (omega arith)
-          ∙ ap (trail_above me (λ j. nat_eq j i)) (sym (trail_is s (bounds.start + k) (omega arith)))
+          trail_second 0 p (p + k) old (flat_map (run_above me any i p bounds) s.trails) lie (omega arith)
+          ∙ ap (λ q. trail_in (flat_map (run_above me any i p bounds) s.trails) (p + q)) (let e : k ≡ (bounds.start + k) - bounds.start = omega arith in e)
+          ∙ above_trail me any i p bounds 0 (bounds.start + k) s.trails sound.rising (omega arith) (omega arith)
+          ∙ ap (trail_above me (λ j. if any then true else nat_eq j i)) (sym (trail_is s (bounds.start + k) (omega arith)))
           ∙ sym (rw is refl)
 
 -- where its bounds end, by the step of its source
@@ -293,16 +293,16 @@ ends_within source bounds mode steps s within is = subst (λ (o : Option layers.
 
 -- ---- all members
 
-abbrev pub ways_of : ℕ → (ℕ → Option layers.SourceStep) → List (ℕ × Member) → List (List (ℕ × ℕ))
-ways_of me steps ms = map (slot_trail me false steps) (flat_map member_slots ms)
+abbrev pub ways_of : ℕ → Bool → (ℕ → Option layers.SourceStep) → List (ℕ × Member) → List (List (ℕ × ℕ))
+ways_of me any steps ms = map (slot_trail me any steps) (flat_map member_slots ms)
 
 -- the runs say the ways of the first members
-pub record SayFirst (me : ℕ) (steps : ℕ → Option layers.SourceStep) (ms : List Member) (k : ℕ) (runs : List TrailRun) : Type 0 where
+pub record SayFirst (me : ℕ) (any : Bool) (steps : ℕ → Option layers.SourceStep) (ms : List Member) (k : ℕ) (runs : List TrailRun) : Type 0 where
   pub lie : LieBetween 0 (members_len (take k ms)) runs
-  pub ways : map (trail_in runs) (places (members_len (take k ms))) ≡ ways_of me steps (enumerate_from 0 (take k ms))
+  pub ways : map (trail_in runs) (places (members_len (take k ms))) ≡ ways_of me any steps (enumerate_from 0 (take k ms))
 
-pub say_none : (me : ℕ) (steps : ℕ → Option layers.SourceStep) (ms : List Member) → SayFirst me steps ms 0 []
-say_none me steps ms = record { lie = omega arith; ways = refl }
+pub say_none : (me : ℕ) (any : Bool) (steps : ℕ → Option layers.SourceStep) (ms : List Member) → SayFirst me any steps ms 0 []
+say_none me any steps ms = record { lie = omega arith; ways = refl }
 
 range_split : (n m a : ℕ) → range_with_len a (n + m) ≡ range_with_len a n ++ range_with_len (a + n) m
 range_split zero m a = ap (λ i. range_with_len a i) (let e : 0 + m ≡ m = omega arith in e) ∙ ap (λ i. range_with_len i m) (let e : a ≡ a + 0 = omega arith in e)
@@ -321,9 +321,9 @@ enumerate_append k [] ys = ap (λ n. enumerate_from n ys) (let e : k ≡ k + 0 =
 enumerate_append k (x ∷ xs) ys = ap (λ rest. (k, x) ∷ rest) (enumerate_append (k + 1) xs ys ∙ ap (λ n. enumerate_from (k + 1) xs ++ enumerate_from n ys) (let e : (k + 1) + length xs ≡ k + suc (length xs) = omega arith in e))
 
 -- one member more
-pub say_more : (me : ℕ) (steps : ℕ → Option layers.SourceStep) (ms : List Member) (k p : ℕ) (m : Member) (old new : List TrailRun) → slice_get ms k ≡ Some m → p ≡ (placement ms k).start
-    → SayFirst me steps ms k old → SayFurther old new p (member_len m) (map (slot_trail me false steps) (member_slots (k, m))) → SayFirst me steps ms (k + 1) new
-say_more me steps ms k p m old new is at said further =
+pub say_more : (me : ℕ) (any : Bool) (steps : ℕ → Option layers.SourceStep) (ms : List Member) (k p : ℕ) (m : Member) (old new : List TrailRun) → slice_get ms k ≡ Some m → p ≡ (placement ms k).start
+    → SayFirst me any steps ms k old → SayFurther old new p (member_len m) (map (slot_trail me any steps) (member_slots (k, m))) → SayFirst me any steps ms (k + 1) new
+say_more me any steps ms k p m old new is at said further =
     let below : k < length ms = below_at ms k m is in
     let start : p ≡ members_len (take k ms) = at in
     let next : take (k + 1) ms ≡ take k ms ++ m ∷ [] = take_more ms k m below ∙ ap (λ x. take k ms ++ x ∷ []) (read_at ms k m m is) in
@@ -341,14 +341,14 @@ say_more me steps ms k p m old new is at said further =
           ∙ ap (map (trail_in new)) (range_split p (member_len m) 0)
           ∙ map-append (trail_in new) (range_with_len 0 p) (range_with_len (0 + p) (member_len m))
           ∙ ap (λ xs. xs ++ map (trail_in new) (range_with_len (0 + p) (member_len m))) (map_same (trail_in new) (trail_in old) 0 p (λ q from to. further.before q (omega arith)) ∙ ap (λ n. map (trail_in old) (places n)) start ∙ said.ways)
-          ∙ ap (λ xs. ways_of me steps (enumerate_from 0 (take k ms)) ++ xs) (ap (λ n. map (trail_in new) (range_with_len n (member_len m))) (let e : 0 + p ≡ p = omega arith in e) ∙ further.here)
-          ∙ sym (map-append (slot_trail me false steps) (flat_map member_slots (enumerate_from 0 (take k ms))) (member_slots (k, m)))
-          ∙ ap (map (slot_trail me false steps)) (sym slots_next);
+          ∙ ap (λ xs. ways_of me any steps (enumerate_from 0 (take k ms)) ++ xs) (ap (λ n. map (trail_in new) (range_with_len n (member_len m))) (let e : 0 + p ≡ p = omega arith in e) ∙ further.here)
+          ∙ sym (map-append (slot_trail me any steps) (flat_map member_slots (enumerate_from 0 (take k ms))) (member_slots (k, m)))
+          ∙ ap (map (slot_trail me any steps)) (sym slots_next);
     }
 
-pub say_all : (me : ℕ) (steps : ℕ → Option layers.SourceStep) (ms : List Member) (k : ℕ) (runs : List TrailRun) → length ms ≤ k → SayFirst me steps ms k runs → (sources : List (ℕ × ℕ)) → trails_in runs (members_len ms) ≡ record_trails me false steps (projection ms sources)
-say_all me steps ms k runs past said sources =
-    subst (λ (xs : List Member). map (trail_in runs) (places (members_len xs)) ≡ ways_of me steps (enumerate_from 0 xs)) (take_all k ms past) said.ways
+pub say_all : (me : ℕ) (any : Bool) (steps : ℕ → Option layers.SourceStep) (ms : List Member) (k : ℕ) (runs : List TrailRun) → length ms ≤ k → SayFirst me any steps ms k runs → (sources : List (ℕ × ℕ)) → trails_in runs (members_len ms) ≡ record_trails me any steps (projection ms sources)
+say_all me any steps ms k runs past said sources =
+    subst (λ (xs : List Member). map (trail_in runs) (places (members_len xs)) ≡ ways_of me any steps (enumerate_from 0 xs)) (take_all k ms past) said.ways
 
 pub placed_len : (ms : List Member) (k : ℕ) (m : Member) → slice_get ms k ≡ Some m → (placement ms k).len ≡ member_len m
 placed_len ms k m is = ap (λ (o : Option Member). option_map_or member_len o 0) is

@@ -1,5 +1,5 @@
 //! The ways of the units of a carrier, by those of the units of its sources.
-ghost use Rattle.std.specs.Prelude.{◌≡◌, ℕ, ◌+◌, ◌<◌, ◌≤◌, ◌^◌, ◌++◌, Some, List, false, length, map, flat_map, min, slice_get, IfOk, OnOk};
+ghost use Rattle.std.specs.Prelude.{◌≡◌, ℕ, ◌+◌, ◌<◌, true, nat_eq, if◌then◌else◌, ◌≤◌, ◌^◌, ◌++◌, Some, List, length, map, flat_map, min, slice_get, IfOk, OnOk};
 ghost use Rattle.std.specs.List.{All};
 ghost use Rattle.ed_base.specs.ChangeList.{step};
 ghost use Rattle.ed_base.specs.Spans.{end_of};
@@ -20,13 +20,20 @@ use ed_base::{BufferNo, Member, OutOfMemory, SharedList, Span, Trail};
 use ed_pieces::{TrailRun, Trails};
 use std::alloc::Global;
 
-/// Whether units of this trail came last through the member of the carrier `me`, and through another
-/// carrier before.
-fn goes_on(me: BufferNo, member: u32, trail: &[(BufferNo, u32)]) -> bool
-    ensures { result ≡ goes_on me member trail.now }
+/// Whether a member is this one. Those of an elision buffer aren't told apart.
+fn is_own(of_elision: bool, owner: u32, member: u32) -> bool
+    ensures { result ≡ (if of_elision then true else nat_eq owner member) }
+{
+    of_elision || owner == member
+}
+
+/// Whether units of this trail came last through the member of the carrier `me`, through any of an
+/// elision buffer, and through another carrier before.
+fn goes_on(me: BufferNo, of_elision: bool, member: u32, trail: &[(BufferNo, u32)]) -> bool
+    ensures { result ≡ goes_on me of_elision member trail.now }
 {
     match owner_in(me, trail) {
-        Some(owner) => owner == member && trail.len() > 1,
+        Some(owner) => is_own(of_elision, owner, member) && trail.len() > 1,
         None => false,
     }
 }
@@ -68,6 +75,7 @@ fn put_above(
     alloc: Global,
     list: &mut Vec<TrailRun>,
     me: BufferNo,
+    of_elision: bool,
     member: u32,
     place: u32,
     bounds: Span,
@@ -75,11 +83,11 @@ fn put_above(
 ) -> Result<(), OutOfMemory>
     requires bounds { end_of bounds < 2 ^ 32 }
     requires place { place + bounds.len < 2 ^ 32 }
-    ensures { OnOk result (list.new.items ≡ list.old.items ++ run_above me member place bounds run.now) }
+    ensures { OnOk result (list.new.items ≡ list.old.items ++ run_above me of_elision member place bounds run.now) }
 {
     let start = run.span.start.max(bounds.start);
     let end = end_within(run.span, bounds.start + bounds.len);
-    if start < end && goes_on(me, member, run.trail.as_slice()) {
+    if start < end && goes_on(me, of_elision, member, run.trail.as_slice()) {
         let trail = without_last(alloc, run.trail.as_slice())?;
         let span = Span {
             start: place + (start - bounds.start),
@@ -96,6 +104,7 @@ fn put_runs(
     alloc: Global,
     list: &mut Vec<TrailRun>,
     me: BufferNo,
+    of_elision: bool,
     member: u32,
     place: u32,
     bounds: Span,
@@ -104,7 +113,7 @@ fn put_runs(
     requires rising { AreRising 0 runs.now }
     requires bounds { end_of bounds < 2 ^ 32 }
     requires place { place + bounds.len < 2 ^ 32 }
-    ensures { OnOk result (list.new.items ≡ list.old.items ++ flat_map (run_above me member place bounds) runs.now) }
+    ensures { OnOk result (list.new.items ≡ list.old.items ++ flat_map (run_above me of_elision member place bounds) runs.now) }
 {
     let end = bounds.start + bounds.len;
     for at in first_behind(runs, bounds.start)..runs.len() {
@@ -112,7 +121,7 @@ fn put_runs(
         if end <= run.span.start {
             return Ok(());
         }
-        put_above(alloc, list, me, member, place, bounds, run)?;
+        put_above(alloc, list, me, of_elision, member, place, bounds, run)?;
     }
     Ok(())
 }
@@ -122,6 +131,7 @@ fn put_step(
     alloc: Global,
     list: &mut Vec<TrailRun>,
     me: BufferNo,
+    of_elision: bool,
     member: u32,
     place: u32,
     bounds: Span,
@@ -129,13 +139,13 @@ fn put_step(
 ) -> Result<(), OutOfMemory>
     requires within { end_of bounds ≤ (step from.now.changes).new_len }
     requires place { place + bounds.len < 2 ^ 32 }
-    ensures put { OnOk result (list.new.items ≡ list.old.items ++ flat_map (run_above me member place bounds) from.now.trails) }
+    ensures put { OnOk result (list.new.items ≡ list.old.items ++ flat_map (run_above me of_elision member place bounds) from.now.trails) }
     ensures sound { IsSound from.now }
 {
     // The length is looked at for that it is below 2^32.
     let _len = len_after(&from.changes);
     let runs = from.trails.as_slice();
-    put_runs(alloc, list, me, member, place, bounds, runs)
+    put_runs(alloc, list, me, of_elision, member, place, bounds, runs)
 }
 
 /// Puts the ways of the units of the member with this index, which begins at this place.
@@ -143,6 +153,7 @@ fn put_member(
     alloc: Global,
     list: &mut Vec<TrailRun>,
     me: BufferNo,
+    of_elision: bool,
     index: u32,
     place: u32,
     member: &Member,
@@ -153,13 +164,13 @@ fn put_member(
     requires within { EndsInNew (steps_seen steps.now) member.now }
     requires place { place + member_len member.now < 2 ^ 32 }
     requires lie { LieBetween 0 place list.old.items }
-    ensures { OnOk result (SayFurther list.old.items list.new.items place (member_len member.now) (map (slot_trail me false (steps_seen steps.now)) (member_slots (index, member.now)))) }
+    ensures { OnOk result (SayFurther list.old.items list.new.items place (member_len member.now) (map (slot_trail me of_elision (steps_seen steps.now)) (member_slots (index, member.now)))) }
 {
     match member {
         Member::Literal(_) => Ok(()),
         Member::Tracked { source, bounds, .. } => match step_of(steps, *source, at) {
             None => Ok(()),
-            Some(step) => put_step(alloc, list, me, index, place, *bounds, step),
+            Some(step) => put_step(alloc, list, me, of_elision, index, place, *bounds, step),
         },
     }
 }
@@ -167,7 +178,8 @@ fn put_member(
 impl Members {
     /// The ways of the units of the text of these members, which are those of the carrier `me` after
     /// these steps of their sources, one step a source: the way of a unit of a source that came last
-    /// through this member of the carrier, without that pair. No other unit has one.
+    /// through this member of the carrier, without that pair. No other unit has one. The members of
+    /// an elision buffer aren't told apart.
     ///
     /// # Errors
     ///
@@ -176,10 +188,11 @@ impl Members {
         &self,
         alloc: Global,
         me: BufferNo,
+        of_elision: bool,
         steps: &[SourceStep],
     ) -> Result<Trails, OutOfMemory>
         requires within { All (EndsInNew (steps_seen steps.now)) self.now }
-        ensures { IfOk result (λ t. (sources : List (ℕ × ℕ)) → trails_in t (members_len self.now) ≡ record_trails me false (steps_seen steps.now) (projection self.now sources)) }
+        ensures { IfOk result (λ t. (sources : List (ℕ × ℕ)) → trails_in t (members_len self.now) ≡ record_trails me of_elision (steps_seen steps.now) (projection self.now sources)) }
     {
         // The length is looked at for that it is below 2^32.
         let _len = self.len();
@@ -189,7 +202,17 @@ impl Members {
             let member = self.get(index);
             let place = self.place(index);
             let at = index_in(&first, steps, member);
-            put_member(alloc, &mut list, me, index, place.start, member, steps, at)?;
+            put_member(
+                alloc,
+                &mut list,
+                me,
+                of_elision,
+                index,
+                place.start,
+                member,
+                steps,
+                at,
+            )?;
         }
         Trails::of(alloc, list)
     }

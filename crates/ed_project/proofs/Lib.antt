@@ -1,5 +1,3 @@
-pub mod Rising
-pub mod Components
 pub mod Showing
 pub mod SourceRuns
 pub mod Placing

@@ -18,7 +18,7 @@ use Rattle.ed_project.specs.declared.shown.Shown.{Shown}
 use Rattle.ed_project.specs.Kept.{AllBecome, Becomes}
 use Rattle.ed_project.specs.Records.{HasLiterals}
 use Rattle.ed_project.specs.Texts.{HasSource, LiteralsStay, StaysAt, found_text, member_text, no_steps, text_in, text_over}
-use Rattle.ed_project.proofs.Components.{length_part}
+use Rattle.ed_kept.proofs.Components.{length_part}
 use Rattle.ed_project.proofs.Walking.{all_get}
 
 -- ---- the part of a text that a member shows

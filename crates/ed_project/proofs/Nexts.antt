@@ -7,9 +7,10 @@ use Rattle.ed_base.specs.Step.{pairs_from}
 use Rattle.ed_layers.specs.CarrierStep.{carrier_step}
 use Rattle.ed_layers.specs.Records.{members_len}
 use Rattle.ed_layers.specs.SourceStep.{SourceStep}
-use Rattle.ed_project.specs.declared.kept.KeptRun.{KeptRun}
+use Rattle.ed_kept.specs.declared.kept.KeptRun.{KeptRun}
 use Rattle.ed_project.specs.declared.shown.Shown.{Shown}
-use Rattle.ed_project.specs.Kept.{AllBecome, ArePairsRising, Rises, all_pairs, kept_step, pairs_of}
+use Rattle.ed_kept.specs.Kept.{ArePairsRising, kept_step, pairs_of}
+use Rattle.ed_project.specs.Kept.{AllBecome, Rises, all_pairs}
 use Rattle.ed_project.specs.Planning.{IsNext}
 use Rattle.ed_project.specs.Records.{record_of}
 use Rattle.ed_project.proofs.Origins.{origin}

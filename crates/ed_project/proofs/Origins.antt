@@ -13,7 +13,8 @@ use Rattle.ed_layers.specs.Records.{member_len, members_len}
 use Rattle.ed_layers.specs.SourceStep.{SourceStep}
 use Rattle.ed_layers.specs.CarrierStep.{Slot, is_same_slot, member_slots, slot_before}
 use Rattle.ed_project.specs.declared.kept.Move.{Move}
-use Rattle.ed_project.specs.Kept.{ArePairsRising, bounds_of, move, run_pairs, shown_pairs}
+use Rattle.ed_kept.specs.Kept.{ArePairsRising, run_pairs}
+use Rattle.ed_project.specs.Kept.{bounds_of, move, shown_pairs}
 use Rattle.ed_project.proofs.Showing.{shows}
 use Rattle.ed_project.proofs.Placing.{slot_of, source_of, slots_are, slots_from, where_in, placed, bounds_len}
 

@@ -5,8 +5,9 @@ use Rattle.std.proofs.lemmas.Bool.{cases_Bool}
 use Rattle.std.proofs.lemmas.Bool.Decides.{nat_tests}
 use Rattle.ed_base.specs.Spans.{holds_place}
 use Rattle.ed_project.specs.declared.kept.Move.{Move}
-use Rattle.ed_project.specs.Kept.{ArePairsRising, run_pairs, shown_pairs}
-use Rattle.ed_project.proofs.Rising.{run_join}
+use Rattle.ed_kept.specs.Kept.{ArePairsRising, run_pairs}
+use Rattle.ed_project.specs.Kept.{shown_pairs}
+use Rattle.ed_kept.proofs.Rising.{run_join}
 
 -- whether the member shows the pair
 abbrev pub shows : Move → ℕ → ℕ → Bool

@@ -8,10 +8,11 @@ use Rattle.ed_base.specs.ChangeList.{ChangeList, AreNormalFrom, IsNormal, step, 
 use Rattle.ed_base.specs.NewStarts.{starts_from}
 use Rattle.ed_base.proofs.NormalLists.{normal_earlier, end_from, new_len_is_end, reached_below_end}
 use Rattle.ed_base.proofs.NormalSteps.{run, kept_from, normal_kept, normal_new_len}
-use Rattle.ed_project.specs.declared.kept.KeptRun.{KeptRun}
+use Rattle.ed_kept.specs.declared.kept.KeptRun.{KeptRun}
 use Rattle.ed_project.specs.declared.kept.Move.{Move}
-use Rattle.ed_project.specs.Kept.{ArePairsRising, kept_run, pairs_of, run_pairs, runs_from, runs_of, shown_pairs, stop_at}
-use Rattle.ed_project.proofs.Rising.{pairs_append, pairs_push, rising_run, rising_join, rising_weak}
+use Rattle.ed_kept.specs.Kept.{ArePairsRising, kept_run, pairs_of, run_pairs, runs_from, runs_of}
+use Rattle.ed_project.specs.Kept.{shown_pairs, stop_at}
+use Rattle.ed_kept.proofs.Rising.{pairs_append, pairs_push, rising_run, rising_join, rising_weak}
 use Rattle.ed_project.proofs.Showing.{shown_append, shown_before, shown_behind}
 
 run_same : (i j k : ℕ) → run i j k ≡ run_pairs i j k

@@ -17,7 +17,7 @@ use Rattle.ed_members.specs.Moving.{EndsInNew, EndsInOld}
 use Rattle.ed_version.specs.declared.snapshot.Snapshot.{Snapshot}
 use Rattle.ed_project.specs.Kept.{AllBecome, Becomes, all_pairs, member_pairs}
 use Rattle.ed_project.specs.Texts.{HasSource, found_text, no_steps}
-use Rattle.ed_project.proofs.Components.{no_runs}
+use Rattle.ed_kept.proofs.Components.{no_runs}
 use Rattle.ed_project.proofs.SourceRuns.{take_more}
 use Rattle.ed_project.proofs.Whole.{len_push}
 

@@ -15,9 +15,10 @@ use Rattle.ed_layers.specs.Records.{member_len, members_len, projection}
 use Rattle.ed_layers.specs.SourceStep.{SourceStep}
 use Rattle.ed_layers.specs.CarrierStep.{Slot, all_stay, carrier_step, member_slots, stay_around}
 use Rattle.ed_members.specs.Faults.{replaced}
-use Rattle.ed_project.specs.Kept.{AllBecome, ArePairsRising, Becomes, Rises, all_pairs, bounds_of, member_pairs, move, pairs_around, run_pairs, shown_pairs}
+use Rattle.ed_kept.specs.Kept.{ArePairsRising, run_pairs}
+use Rattle.ed_project.specs.Kept.{AllBecome, Becomes, Rises, all_pairs, bounds_of, member_pairs, move, pairs_around, shown_pairs}
 use Rattle.ed_project.specs.Texts.{no_steps}
-use Rattle.ed_project.proofs.Rising.{rising_join, rising_run, rising_weak, run_join}
+use Rattle.ed_kept.proofs.Rising.{rising_join, rising_run, rising_weak, run_join}
 use Rattle.ed_project.proofs.Showing.{rising_shown}
 use Rattle.ed_project.proofs.Placing.{length_slots, length_slots_from, slots_from, source_of}
 use Rattle.ed_project.proofs.Origins.{origin, pairs_in, pairs_moved, pairs_new, pairs_stay}

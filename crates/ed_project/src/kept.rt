@@ -1,17 +1,11 @@
 //! Units of a projection that stay, run by run.
 ghost use Rattle.std.specs.Prelude.{◌≡◌, ◌+◌, ◌<◌, ◌≤◌, ◌^◌, ◌++◌, OnOk};
 ghost use Rattle.ed_base.specs.Spans.{end_of};
-ghost use Rattle.ed_project.specs.Kept.{pairs_of, run_pairs, shown_pairs};
+ghost use Rattle.ed_kept.specs.Kept.{pairs_of, run_pairs};
+ghost use Rattle.ed_project.specs.Kept.{shown_pairs};
 
 use ed_base::{OutOfMemory, Span};
-
-/// Units that stand in a row before and after: the places of the first, and how many there are.
-#[derive(Clone, Copy)]
-pub struct KeptRun {
-    pub old: u32,
-    pub new: u32,
-    pub len: u32,
-}
+use ed_kept::KeptRun;
 
 /// A member whose source stepped: its bounds in the old and in the new text of the source, and where
 /// it begins in the old and in the new text of the projection.
@@ -28,7 +22,7 @@ pub struct Move {
 /// # Errors
 ///
 /// Memory was refused.
-#[tactic(auto, using(crate::proofs::Rising::pairs_push))]
+#[tactic(auto, using(ed_kept::proofs::Rising::pairs_push))]
 pub fn put_run(runs: &mut Vec<KeptRun>, old: u32, new: u32, len: u32) -> Result<(), OutOfMemory>
     ensures { OnOk result (pairs_of runs.new.items ≡ pairs_of runs.old.items ++ run_pairs old new len) }
 {

@@ -3,7 +3,6 @@
 #![tactic(auto)]
 
 mod fault;
-mod gaps;
 mod kept;
 mod next;
 mod projection;

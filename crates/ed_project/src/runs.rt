@@ -3,11 +3,13 @@ ghost use Rattle.std.specs.Prelude.{◌≡◌, ℕ, ◌+◌, ◌-◌, ◌<◌, �
 ghost use Rattle.ed_base.specs.declared.piece.Member.{Member};
 ghost use Rattle.ed_layers.specs.Records.{member_len, members_len};
 ghost use Rattle.ed_members.specs.Steps.{steps_seen};
-ghost use Rattle.ed_project.specs.Kept.{AllBecome, Becomes, Rises, all_pairs, bounds_of, member_pairs, pairs_around, pairs_of};
+ghost use Rattle.ed_kept.specs.Kept.{pairs_of};
+ghost use Rattle.ed_project.specs.Kept.{AllBecome, Becomes, Rises, all_pairs, bounds_of, member_pairs, pairs_around};
 
-use crate::kept::{KeptRun, Move, put_run};
+use crate::kept::{Move, put_run};
 use crate::sources::{put_moved, step_of};
 use ed_base::{Member, OutOfMemory, Span};
+use ed_kept::KeptRun;
 use ed_members::{Members, SourceStep};
 use std::alloc::Global;
 

@@ -12,10 +12,10 @@ ghost use Rattle.ed_project.specs.Records.{IsShown};
 ghost use Rattle.ed_project.specs.Texts.{HasSource, no_steps, text_in, text_over, versions_of};
 
 use crate::fault::ProjectionFault;
-use crate::gaps::changes_between;
 use crate::runs::{kept_runs, runs_around};
 use crate::texts::{Staying, text_of, versions_of};
 use ed_base::{BufferNo, Changes, OutOfMemory, VersionList};
+use ed_kept::changes_between;
 use ed_members::{Members, SourceStep};
 use ed_text::{DocText, MOST_UNITS, Text};
 use ed_version::{HasText, Snapshot};

@@ -4,10 +4,12 @@ ghost use Rattle.std.specs.Option.{option_copied};
 ghost use Rattle.ed_base.specs.ChangeList.{IsNormal, new_len, step};
 ghost use Rattle.ed_base.specs.Spans.{end_of};
 ghost use Rattle.ed_members.specs.Steps.{step_seen, steps_seen};
-ghost use Rattle.ed_project.specs.Kept.{ArePairsRising, pairs_of, runs_of, shown_pairs, stop_at};
+ghost use Rattle.ed_kept.specs.Kept.{ArePairsRising, pairs_of, runs_of};
+ghost use Rattle.ed_project.specs.Kept.{shown_pairs, stop_at};
 
-use crate::kept::{KeptRun, Move, put_shown};
+use crate::kept::{Move, put_shown};
 use ed_base::{BufferNo, Changes, OutOfMemory};
+use ed_kept::KeptRun;
 use ed_members::SourceStep;
 
 /// The step of the source, if it stepped.

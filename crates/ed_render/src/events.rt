@@ -20,8 +20,10 @@ fn command(line: &mut Line, command: &Command) -> Result<(), OutOfMemory>
     match command {
         Command::Buffer { name, text: _ } => named(line, "buffer ", name),
         Command::Projection { name, .. } => named(line, "projection ", name),
+        Command::Elision { name, .. } => named(line, "elision ", name),
         Command::Edit { buffer, .. } => named(line, "edit ", buffer),
         Command::Spans { buffer, .. } => named(line, "spans ", buffer),
+        Command::Elide { buffer, .. } => named(line, "elide ", buffer),
         Command::Region { buffer, .. } => named(line, "region ", buffer),
         Command::Unregion { buffer, .. } => named(line, "unregion ", buffer),
         Command::Readonly { buffer, .. } => named(line, "readonly ", buffer),
@@ -31,6 +33,7 @@ fn command(line: &mut Line, command: &Command) -> Result<(), OutOfMemory>
         Command::Versions { buffer } => named(line, "versions ", buffer),
         Command::Point { buffer, .. } => named(line, "point ", buffer),
         Command::Span { buffer, .. } => named(line, "span ", buffer),
+        Command::Nearest { buffer, pos: _ } => named(line, "nearest ", buffer),
     }
 }
 

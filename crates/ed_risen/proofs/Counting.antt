@@ -1,11 +1,11 @@
 -- The numbers that are limited over all buffers, once a buffer or a version is new.
-use Rattle.std.proofs.Common.{◌≡◌, ℕ, zero, suc, ◌+◌, ◌<◌, List, [], ◌∷◌, ◌++◌, length, Option, Some, None, refl, sym, ◌∙◌, ap, arith, length-append}
+use Rattle.std.proofs.Common.{true, ◌≡◌, ℕ, zero, suc, ◌+◌, ◌<◌, List, [], ◌∷◌, ◌++◌, length, Option, Some, None, refl, sym, ◌∙◌, ap, arith, length-append}
 use Rattle.std.specs.Prelude.{slice_get, slice_set, unwrap_or, sum_by}
 use Rattle.std.proofs.lemmas.List.Sums.{sum_by-cons, sum_by_push}
 use Rattle.ed_base.specs.declared.Member.{Member}
 use Rattle.ed_base.specs.Denial.{regions_after}
 use Rattle.ed_base.specs.ChangeList.{ChangeList, inserted_len, step}
-use Rattle.ed_layers.specs.Records.{Record, base, projection, elision}
+use Rattle.ed_layers.specs.Records.{Record, base, is_carrier, projection, elision}
 use Rattle.ed_stock.specs.Limits.{inserted, versions, placements}
 use Rattle.ed_stock.specs.Making.{with_new}
 use Rattle.ed_stock.specs.Stock.{Stock, Buffer, buffer, count, with_buffer}
@@ -125,6 +125,13 @@ inserted_new_base s text n resolver =
 pub inserted_new_projection : (s : Stock) (members : List Member) (sources : List (ℕ × ℕ)) (resolver : Option (List ℕ)) → inserted (with_new s (projection members sources) resolver) ≡ inserted s
 inserted_new_projection s members sources resolver =
     omega (arith, inserted_sum (s.buffers ++ new_buffer (projection members sources) resolver ∷ []) s.most_buffers s.most_versions, sum_by_push inserted_of s.buffers (new_buffer (projection members sources) resolver), inserted_sum s.buffers s.most_buffers s.most_versions)
+
+-- a carrier opens with nothing of its own
+pub inserted_new_carrier : (s : Stock) (r : Record) (resolver : Option (List ℕ)) → is_carrier r ≡ true → inserted (with_new s r resolver) ≡ inserted s
+inserted_new_carrier s (base text reiterated) resolver carries = absurd (cc)
+inserted_new_carrier s (projection members sources) resolver carries = inserted_new_projection s members sources resolver
+inserted_new_carrier s (elision flags source version) resolver carries =
+    omega (arith, inserted_sum (s.buffers ++ new_buffer (elision flags source version) resolver ∷ []) s.most_buffers s.most_versions, sum_by_push inserted_of s.buffers (new_buffer (elision flags source version) resolver), inserted_sum s.buffers s.most_buffers s.most_versions)
 
 pub versions_new : (s : Stock) (r : Record) (resolver : Option (List ℕ)) → versions (with_new s r resolver) ≡ versions s + 1
 versions_new s r resolver =

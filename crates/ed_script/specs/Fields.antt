@@ -7,6 +7,7 @@ use Rattle.serde_json.specs.Find.{get, as_number, as_str, as_array, as_object, a
 use Rattle.ed_base.specs.Names.{is_name}
 use Rattle.ed_units.specs.Utf16.{units_of_text}
 use Rattle.ed_base.specs.declared.Replace.{Replace}
+use Rattle.ed_base.specs.declared.Span.{Span}
 use Rattle.ed_base.specs.declared.PointMode.{PointMode}
 use Rattle.ed_base.specs.declared.SpanMode.{SpanMode}
 use Rattle.ed_base.specs.declared.EdgeMode.{EdgeMode}
@@ -107,6 +108,17 @@ each_item read (item d ds) = read d >>= λ a. option_map (λ rest. a ∷ rest) (
 
 abbrev pub list_of : {A : Type 0} → (Data → Option A) → Data → Option (List A)
 list_of read d = as_array d >>= each_item read
+
+abbrev pub two_fields : Data → Data → Option Span
+two_fields s l = whole s >>= λ start. whole l >>= λ len. Some (record { start = start; len = len })
+
+-- an array of a start and a length
+unfoldable pub pair : Data → Option Span
+pair d = as_array d >>= two
+  where
+    two : Items → Option Span
+    two (item s (item l no_items)) = two_fields s l
+    two _ = None
 
 abbrev pub three_fields : Data → Data → Data → Option Replace
 three_fields s l t = whole s >>= λ start. whole l >>= λ len. text t >>= λ units. Some (record { start = start; len = len; text = units })

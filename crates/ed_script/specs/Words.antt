@@ -6,7 +6,7 @@ use Rattle.serde_json.specs.Find.{as_str}
 use Rattle.ed_base.specs.declared.SpanMode.{SpanMode}
 use Rattle.ed_base.specs.declared.SpanHow.{SpanHow}
 use Rattle.ed_script.specs.declared.kinds.Command.{Command}
-use Rattle.ed_script.specs.Fields.{◌>>=◌, required, has_only, list_of, optional, defaulted, name, whole, text, replace, script_span, point_mode, span_mode, edge_mode, one_way}
+use Rattle.ed_script.specs.Fields.{◌>>=◌, required, has_only, list_of, optional, defaulted, name, whole, text, pair, replace, script_span, point_mode, span_mode, edge_mode, one_way}
 
 abbrev in_ : Data → Option (List ℕ)
 in_ d = required (codes "in") name d
@@ -26,6 +26,12 @@ projection_command d =
     then (required (codes "name") name d >>= λ n. required (codes "spans") (list_of script_span) d >>= λ ss. optional (codes "resolver") name d >>= λ r. Some (Command.Projection n ss r))
     else None
 
+unfoldable pub elision_command : Data → Option Command
+elision_command d =
+    if has_only (codes "do" ∷ codes "name" ∷ codes "in" ∷ codes "hide" ∷ codes "resolver" ∷ []) d
+    then (required (codes "name") name d >>= λ n. in_ d >>= λ b. required (codes "hide") (list_of pair) d >>= λ h. optional (codes "resolver") name d >>= λ r. Some (Command.Elision n b h r))
+    else None
+
 unfoldable pub edit_command : Data → Option Command
 edit_command d =
     if has_only (codes "do" ∷ codes "in" ∷ codes "replaces" ∷ codes "at" ∷ []) d
@@ -36,6 +42,12 @@ unfoldable pub spans_command : Data → Option Command
 spans_command d =
     if has_only (codes "do" ∷ codes "in" ∷ codes "first" ∷ codes "count" ∷ codes "spans" ∷ codes "at" ∷ []) d
     then (in_ d >>= λ b. required (codes "first") whole d >>= λ f. required (codes "count") whole d >>= λ c. required (codes "spans") (list_of script_span) d >>= λ ss. at d >>= λ v. Some (Command.Spans b f c ss v))
+    else None
+
+unfoldable pub elide_command : Data → Option Command
+elide_command d =
+    if has_only (codes "do" ∷ codes "in" ∷ codes "hide" ∷ codes "show" ∷ codes "at" ∷ []) d
+    then (in_ d >>= λ b. required (codes "hide") (list_of pair) d >>= λ h. required (codes "show") (list_of pair) d >>= λ s. at d >>= λ v. Some (Command.Elide b h s v))
     else None
 
 unfoldable pub region_command : Data → Option Command
@@ -99,12 +111,20 @@ span_command d =
     then (in_ d >>= λ b. required (codes "start") whole d >>= λ s. required (codes "len") whole d >>= λ l. how d >>= λ h. at d >>= λ v. to d >>= λ w. Some (Command.Span b s l h v w))
     else None
 
+unfoldable pub nearest_command : Data → Option Command
+nearest_command d =
+    if has_only (codes "do" ∷ codes "in" ∷ codes "pos" ∷ []) d
+    then (in_ d >>= λ b. required (codes "pos") whole d >>= λ p. Some (Command.Nearest b p))
+    else None
+
 unfoldable pub by_word : List ℕ → Data → Option Command
 by_word word d =
     if bytes_eq word (codes "buffer") then buffer_command d
     else (if bytes_eq word (codes "projection") then projection_command d
+    else (if bytes_eq word (codes "elision") then elision_command d
     else (if bytes_eq word (codes "edit") then edit_command d
     else (if bytes_eq word (codes "spans") then spans_command d
+    else (if bytes_eq word (codes "elide") then elide_command d
     else (if bytes_eq word (codes "region") then region_command d
     else (if bytes_eq word (codes "unregion") then unregion_command d
     else (if bytes_eq word (codes "readonly") then readonly_command d
@@ -114,7 +134,8 @@ by_word word d =
     else (if bytes_eq word (codes "versions") then versions_command d
     else (if bytes_eq word (codes "point") then point_command d
     else (if bytes_eq word (codes "span") then span_command d
-    else None))))))))))))
+    else (if bytes_eq word (codes "nearest") then nearest_command d
+    else None)))))))))))))))
 
 -- the command that a value is
 unfoldable pub command_of : Data → Option Command

@@ -9,8 +9,8 @@ ghost use Rattle.ed_script.specs.Fields as spec;
 ghost use Rattle.ed_base.specs.declared.SpanMode.{SpanMode};
 
 use ed_base::{
-    EdgeMode, Name, OutOfMemory, PointMode, Replace, ReplaceList, ScriptSpan, ScriptSpanList,
-    SharedList, SpanHow, SpanMode, Units, VersionNo,
+    EdgeMode, Name, OutOfMemory, PairList, PointMode, Replace, ReplaceList, ScriptSpan,
+    ScriptSpanList, SharedList, Span, SpanHow, SpanMode, Units, VersionNo,
 };
 use ed_units::to_units;
 use serde_json::{Map, Value};
@@ -289,6 +289,59 @@ pub fn units_at(alloc: Global, value: &Value, key: &str) -> Result<Option<Units>
     match value.get(key) {
         None => Ok(None),
         Some(found) => text(alloc, found),
+    }
+}
+
+fn pair_of(start: &Value, len: &Value) -> Option<Span>
+    ensures { result ≡ spec.two_fields (view start.now) (view len.now) }
+{
+    match (whole(start), whole(len)) {
+        (Some(start), Some(len)) => Some(Span { start, len }),
+        _ => None,
+    }
+}
+
+/// A span: an array of its start and its length.
+#[tactic(auto, unfolding(crate::specs::Fields::pair))]
+fn pair(value: &Value) -> Option<Span>
+    ensures { result ≡ spec.pair (view value.now) }
+{
+    let Some(items) = value.as_array() else {
+        return None;
+    };
+    match items.as_slice() {
+        [start, len] => pair_of(start, len),
+        _ => None,
+    }
+}
+
+fn each_pair(alloc: Global, items: &[Value]) -> Result<Option<Vec<Span>>, OutOfMemory>
+    ensures { IfOk result (λ o. option_map (λ v. v.items) o ≡ spec.each_item spec.pair (items_view items.now)) }
+{
+    let mut pairs = Vec::new(alloc);
+    for item in items {
+        match pair(item) {
+            None => return Ok(None),
+            Some(found) => pairs.push(found)?,
+        }
+    }
+    Ok(Some(pairs))
+}
+
+/// The spans under a key, each an array of its start and its length.
+///
+/// # Errors
+///
+/// Memory was refused.
+pub fn pairs_at(alloc: Global, value: &Value, key: &str) -> Result<Option<PairList>, OutOfMemory>
+    ensures { IfOk result (λ o. o ≡ spec.required key.now (spec.list_of spec.pair) (view value.now)) }
+{
+    let Some(items) = array_at(value, key) else {
+        return Ok(None);
+    };
+    match each_pair(alloc, items)? {
+        None => Ok(None),
+        Some(pairs) => Ok(Some(SharedList::of(alloc, pairs)?)),
     }
 }
 

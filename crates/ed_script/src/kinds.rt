@@ -1,7 +1,7 @@
 //! What a script can tell.
 use ed_base::{
-    EdgeMode, Name, PointMode, RegionNo, ReplaceList, ScriptSpanList, SpanHow, SpanMode, Units,
-    VersionNo,
+    EdgeMode, Name, PairList, PointMode, RegionNo, ReplaceList, ScriptSpanList, SpanHow, SpanMode,
+    Units, VersionNo,
 };
 
 /// A command of a script.
@@ -20,6 +20,14 @@ pub enum Command {
         spans: ScriptSpanList,
         resolver: Option<Name>,
     },
+    /// Makes an elision buffer that shows a buffer without these parts of its current text. A
+    /// resolver that is named divides what is put in where a part is hidden.
+    Elision {
+        name: Name,
+        buffer: Name,
+        hide: PairList,
+        resolver: Option<Name>,
+    },
     /// Edits a buffer. All replaces refer to its text before the edit. Where a version is named it
     /// has to be the current one.
     Edit {
@@ -34,6 +42,14 @@ pub enum Command {
         first: u32,
         count: u32,
         spans: ScriptSpanList,
+        at: Option<VersionNo>,
+    },
+    /// Hides parts of the current text of what an elision buffer shows, and then shows others. Where
+    /// a version is named it has to be the elision buffer's current one.
+    Elide {
+        buffer: Name,
+        hide: PairList,
+        show: PairList,
         at: Option<VersionNo>,
     },
     /// Adds a read-only region to a buffer. Its span follows every version by the mode, and a query
@@ -94,5 +110,11 @@ pub enum Command {
         how: SpanHow,
         at: Option<VersionNo>,
         to: Option<VersionNo>,
+    },
+    /// Asks where a place of the current text of what an elision buffer shows lies in the elision
+    /// buffer: behind all that is shown before it.
+    Nearest {
+        buffer: Name,
+        pos: u32,
     },
 }

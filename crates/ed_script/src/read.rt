@@ -10,7 +10,7 @@ ghost use Rattle.ed_script.specs.declared.bad.BadKind.{BadKind};
 
 use crate::bad::LineFault;
 use crate::fields::{
-    edge_mode_at, has_only, name_at, name_if_there, point_mode_at, replaces_at, span_how,
+    edge_mode_at, has_only, name_at, name_if_there, pairs_at, point_mode_at, replaces_at, span_how,
     span_mode_at, span_mode_or_exclusive, spans_at, text_at, units_at, version_at, whole_at,
 };
 use crate::kinds::Command;
@@ -53,6 +53,33 @@ fn projection_command(alloc: Global, value: &Value) -> Result<Option<Command>, O
     Ok(Some(Command::Projection {
         name,
         spans,
+        resolver,
+    }))
+}
+
+#[tactic(auto, unfolding(crate::specs::Words::elision_command))]
+fn elision_command(alloc: Global, value: &Value) -> Result<Option<Command>, OutOfMemory>
+    ensures { IfOk result (λ o. o ≡ spec.elision_command (view value.now)) }
+{
+    if !has_only(value, &["do", "name", "in", "hide", "resolver"]) {
+        return Ok(None);
+    }
+    let Some(name) = name_at(alloc, value, "name")? else {
+        return Ok(None);
+    };
+    let Some(buffer) = name_at(alloc, value, "in")? else {
+        return Ok(None);
+    };
+    let Some(hide) = pairs_at(alloc, value, "hide")? else {
+        return Ok(None);
+    };
+    let Some(resolver) = name_if_there(alloc, value, "resolver")? else {
+        return Ok(None);
+    };
+    Ok(Some(Command::Elision {
+        name,
+        buffer,
+        hide,
         resolver,
     }))
 }
@@ -107,6 +134,33 @@ fn spans_command(alloc: Global, value: &Value) -> Result<Option<Command>, OutOfM
         first,
         count,
         spans,
+        at,
+    }))
+}
+
+#[tactic(auto, unfolding(crate::specs::Words::elide_command))]
+fn elide_command(alloc: Global, value: &Value) -> Result<Option<Command>, OutOfMemory>
+    ensures { IfOk result (λ o. o ≡ spec.elide_command (view value.now)) }
+{
+    if !has_only(value, &["do", "in", "hide", "show", "at"]) {
+        return Ok(None);
+    }
+    let Some(buffer) = name_at(alloc, value, "in")? else {
+        return Ok(None);
+    };
+    let Some(hide) = pairs_at(alloc, value, "hide")? else {
+        return Ok(None);
+    };
+    let Some(show) = pairs_at(alloc, value, "show")? else {
+        return Ok(None);
+    };
+    let Some(at) = version_at(value, "at") else {
+        return Ok(None);
+    };
+    Ok(Some(Command::Elide {
+        buffer,
+        hide,
+        show,
         at,
     }))
 }
@@ -325,6 +379,22 @@ fn span_command(alloc: Global, value: &Value) -> Result<Option<Command>, OutOfMe
     }))
 }
 
+#[tactic(auto, unfolding(crate::specs::Words::nearest_command))]
+fn nearest_command(alloc: Global, value: &Value) -> Result<Option<Command>, OutOfMemory>
+    ensures { IfOk result (λ o. o ≡ spec.nearest_command (view value.now)) }
+{
+    if !has_only(value, &["do", "in", "pos"]) {
+        return Ok(None);
+    }
+    let Some(buffer) = name_at(alloc, value, "in")? else {
+        return Ok(None);
+    };
+    let Some(pos) = whole_at(value, "pos") else {
+        return Ok(None);
+    };
+    Ok(Some(Command::Nearest { buffer, pos }))
+}
+
 #[tactic(auto, unfolding(crate::specs::Words::by_word))]
 fn by_word(alloc: Global, word: &str, value: &Value) -> Result<Option<Command>, OutOfMemory>
     ensures { IfOk result (λ o. o ≡ spec.by_word word.now (view value.now)) }
@@ -332,8 +402,10 @@ fn by_word(alloc: Global, word: &str, value: &Value) -> Result<Option<Command>, 
     match word {
         "buffer" => buffer_command(alloc, value),
         "projection" => projection_command(alloc, value),
+        "elision" => elision_command(alloc, value),
         "edit" => edit_command(alloc, value),
         "spans" => spans_command(alloc, value),
+        "elide" => elide_command(alloc, value),
         "region" => region_command(alloc, value),
         "unregion" => unregion_command(alloc, value),
         "readonly" => readonly_command(alloc, value),
@@ -343,6 +415,7 @@ fn by_word(alloc: Global, word: &str, value: &Value) -> Result<Option<Command>, 
         "versions" => versions_command(alloc, value),
         "point" => point_command(alloc, value),
         "span" => span_command(alloc, value),
+        "nearest" => nearest_command(alloc, value),
         _ => Ok(None),
     }
 }

@@ -21,7 +21,7 @@ const ASKED: &str = "{\"do\":\"text\",\"in\":\"a\"}\n";
 const ANSWERED: &str = "1 0 text a: refused 1 NoBuffer\n";
 
 /// What stands behind a first command, and what line and kind it is refused as.
-const BAD_LINES: [(&str, u32, BadKind); 16] = [
+const BAD_LINES: [(&str, u32, BadKind); 38] = [
     ("{\"do\":\"fly\"}", 2, BadKind::NotCommand),
     ("\n \t\r\nx", 4, BadKind::NotJson),
     ("{\"do\":", 2, BadKind::NotJson),
@@ -83,6 +83,112 @@ const BAD_LINES: [(&str, u32, BadKind); 16] = [
     ),
     (
         "{\"do\":\"spans\",\"in\":\"p\",\"first\":1,\"spans\":[]}",
+        2,
+        BadKind::NotCommand,
+    ),
+    (
+        "{\"do\":\"elision\",\"name\":\"e\",\"in\":\"a\"}",
+        2,
+        BadKind::NotCommand,
+    ),
+    (
+        "{\"do\":\"elision\",\"name\":\"e\",\"hide\":[]}",
+        2,
+        BadKind::NotCommand,
+    ),
+    (
+        "{\"do\":\"elision\",\"in\":\"a\",\"hide\":[]}",
+        2,
+        BadKind::NotCommand,
+    ),
+    (
+        "{\"do\":\"elision\",\"name\":\"e\",\"in\":\"a\",\"hide\":[],\"at\":0}",
+        2,
+        BadKind::NotCommand,
+    ),
+    (
+        "{\"do\":\"elision\",\"name\":\"e\",\"in\":\"a\",\"hide\":[],\"resolver\":7}",
+        2,
+        BadKind::NotCommand,
+    ),
+    (
+        "{\"do\":\"elision\",\"name\":\"e\",\"in\":\"a\",\"hide\":[],\"show\":[]}",
+        2,
+        BadKind::NotCommand,
+    ),
+    (
+        "{\"do\":\"elision\",\"name\":\"e\",\"in\":\"a\",\"hide\":[0,1]}",
+        2,
+        BadKind::NotCommand,
+    ),
+    (
+        "{\"do\":\"elision\",\"name\":\"e\",\"in\":\"a\",\"hide\":[[]]}",
+        2,
+        BadKind::NotCommand,
+    ),
+    (
+        "{\"do\":\"elision\",\"name\":\"e\",\"in\":\"a\",\"hide\":[[0]]}",
+        2,
+        BadKind::NotCommand,
+    ),
+    (
+        "{\"do\":\"elision\",\"name\":\"e\",\"in\":\"a\",\"hide\":[[0,1],[0,1,2]]}",
+        2,
+        BadKind::NotCommand,
+    ),
+    (
+        "{\"do\":\"elision\",\"name\":\"e\",\"in\":\"a\",\"hide\":[[0,4294967296]]}",
+        2,
+        BadKind::NotCommand,
+    ),
+    (
+        "{\"do\":\"elision\",\"name\":\"e\",\"in\":\"a\",\"hide\":[[-1,1]]}",
+        2,
+        BadKind::NotCommand,
+    ),
+    (
+        "{\"do\":\"elision\",\"name\":\"e\",\"in\":\"a\",\"hide\":[{\"start\":0,\"len\":1}]}",
+        2,
+        BadKind::NotCommand,
+    ),
+    (
+        "{\"do\":\"elide\",\"in\":\"e\",\"hide\":[]}",
+        2,
+        BadKind::NotCommand,
+    ),
+    (
+        "{\"do\":\"elide\",\"in\":\"e\",\"show\":[]}",
+        2,
+        BadKind::NotCommand,
+    ),
+    (
+        "{\"do\":\"elide\",\"in\":\"e\",\"hide\":[],\"show\":[[0,1.5]]}",
+        2,
+        BadKind::NotCommand,
+    ),
+    (
+        "{\"do\":\"elide\",\"in\":\"e\",\"hide\":[],\"show\":[],\"at\":null}",
+        2,
+        BadKind::NotCommand,
+    ),
+    (
+        "{\"do\":\"elide\",\"in\":\"e\",\"hide\":[],\"show\":[],\"resolver\":\"last\"}",
+        2,
+        BadKind::NotCommand,
+    ),
+    ("{\"do\":\"nearest\",\"in\":\"e\"}", 2, BadKind::NotCommand),
+    (
+        "{\"do\":\"nearest\",\"in\":\"e\",\"pos\":0,\"at\":0}",
+        2,
+        BadKind::NotCommand,
+    ),
+    (
+        "{\"do\":\"nearest\",\"in\":\"e\",\"pos\":\"0\"}",
+        2,
+        BadKind::NotCommand,
+    ),
+    (
+        "{\"do\":\"nearest\",\"name\":\"e\",\"pos\":0}",
         2,
         BadKind::NotCommand,
     ),

@@ -93,3 +93,40 @@ fn a_long_session_is_answered_whole(rt: HostRuntime) -> Result<(), Fail> {
     assert!(rt; written == expected);
     Ok(())
 }
+
+/// A projection of two units of a base and a literal of 1,000,000 units, and 900 edits of the base: a
+/// copy of the literal for each version would take 1.8 GB.
+#[test]
+fn a_long_literal_goes_through_many_versions(rt: HostRuntime) -> Result<(), Fail> {
+    let alloc = rt.alloc();
+    let mut script = String::from_str(
+        alloc,
+        "{\"do\":\"buffer\",\"name\":\"a\",\"text\":\"ab\"}\n{\"do\":\"projection\",\"name\":\"p\",\"spans\":[{\"in\":\"a\",\"start\":0,\"len\":2},\"",
+    )?;
+    let mut expected = String::from_str(alloc, "1 0 buffer a: made 0\n2 0 projection p: made 1\n")?;
+    for _ in 0..100_000 {
+        add(&mut script, "0123456789")?;
+    }
+    add(&mut script, "\"]}\n")?;
+    for version in 1..901 {
+        add(
+            &mut script,
+            "{\"do\":\"edit\",\"in\":\"a\",\"replaces\":[[1,0,\"-\"]]}\n",
+        )?;
+        let line = format!(in alloc;
+            "{} 0 edit a: edited 0@{version} 1@{version}\n",
+            version + 2
+        )?;
+        add(&mut expected, line.as_str())?;
+    }
+    add(
+        &mut script,
+        "{\"do\":\"changes\",\"in\":\"p\",\"from\":899}\n{\"do\":\"lines\",\"in\":\"p\"}\n",
+    )?;
+    add(
+        &mut expected,
+        "903 0 changes p: (1,0,\"-\")\n904 0 lines p: [0,1000902)0\n",
+    )?;
+    assert!(rt; answers(alloc, script.as_str())? == expected);
+    Ok(())
+}

@@ -20,7 +20,8 @@ use Rattle.ed_group.specs.Spanning.{standing_fault}
 use Rattle.ed_climb.proofs.Asked.{got}
 use Rattle.ed_climb.proofs.KeptNumbers.{held_len, not_passed}
 use Rattle.ed_group.proofs.Begins.{can_respan, handed_on, has_begun, long_refused, members_are, there}
-use Rattle.ed_group.proofs.Projected.{have_all, refuses_memory, snaps_held, sources_within}
+use Rattle.ed_group.proofs.Projected.{have_all, snaps_held, sources_within}
+use Rattle.ed_group.proofs.Refusing.{refuses_memory}
 use Rattle.ed_group.proofs.Respanned.{all_lie, limits_left, members_refused, shown_apart, shown_cover, sources_refused}
 use Rattle.ed_climb.proofs.Snapshots.{held_record, snaps}
 use Rattle.ed_group.proofs.spanning.begun.Goals as goal

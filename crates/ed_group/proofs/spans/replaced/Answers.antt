@@ -5,7 +5,7 @@ use Rattle.ed_climb.specs.declared.fault.PlanFault.{PlanFault}
 use Rattle.ed_held.specs.declared.moves.Move.{Move}
 use Rattle.ed_held.specs.Seen.{stock}
 use Rattle.ed_group.proofs.Begins.{handed_on}
-use Rattle.ed_group.proofs.Projected.{refuses_memory}
+use Rattle.ed_group.proofs.Refusing.{refuses_memory}
 use Rattle.ed_group.proofs.SpansBegins.{below_held, spans_lead}
 use Rattle.ed_group.proofs.spans.replaced.Goals as goal
 

@@ -1,7 +1,8 @@
 use Rattle.std.proofs.Common.{◌≡◌, ◌≤◌, ◌+◌, ◌-◌, true, false, List, length, map, sym, ap, ◌∙◌, subst}
 use Rattle.std.specs.Prelude.{IfOk}
 use Rattle.ed_base.specs.declared.Member.{Member}
-use Rattle.ed_layers.specs.Records.{is_carrier, members_of}
+use Rattle.ed_held.proofs.ElisionLemmas.{elision_last}
+use Rattle.ed_layers.specs.Records.{is_carrier, is_elision, members_of}
 use Rattle.ed_project.specs.Records.{version_at}
 use Rattle.ed_stock.specs.Making.{spans_replaced}
 use Rattle.ed_held.specs.Respanning.{held_members}
@@ -27,3 +28,8 @@ returns c =
     let are : held_members c.args.held.now ≡ c.members.result.now =
     ap held_members c.in-Projection.is ∙ ap members_of (projection_last c.in-Projection.projection c.in-Projection.turns c.now.ensures.some) ∙ sym (c.members.ensures ∙ ap (λ v. (version_at c.in-Projection.projection.versions v).members) c.now.ensures.version) in
     subst (λ (ms : List Member). IfOk c.joined.result (λ v. v.items ≡ spans_replaced ms c.args.first c.args.removed c.args.members.items)) (sym are) c.joined.ensures
+
+pub unreachable-requires-in-Elision : goal.unreachable-requires-in-Elision
+unreachable-requires-in-Elision c =
+    let hides : is_elision (last_of (known c.args.held.now).buffer) ≡ true = ap (λ (h : Held). is_elision (last_of (known h).buffer)) c.in-Elision.is ∙ ap is_elision (elision_last c.in-Elision.elision c.in-Elision.turns c.now-now.ensures.some) in
+    absurd (let e : true ≡ false = sym hides ∙ c.requires.plain in cc)

@@ -1,6 +1,6 @@
 use Rattle.std.proofs.Common.{◌≡◌, ◌++◌, OnOk, ap, sym, subst, ◌∙◌, arith}
 use Rattle.std.proofs.lemmas.List.{append-nil}
-use Rattle.ed_project.specs.Kept.{pairs_of}
+use Rattle.ed_kept.specs.Kept.{pairs_of}
 use Rattle.ed_project.proofs.Showing.{IsPart, is_part, part_none, part_some}
 use Rattle.ed_project.proofs.kept.put_shown.Goals as goal
 use Rattle.ed_project.proofs.kept.put_shown.Goals.{After-min-end}

@@ -3,7 +3,8 @@ use Rattle.std.specs.Option.{option_map_or}
 use Rattle.ed_base.specs.declared.edit.Span.{Span}
 use Rattle.ed_layers.specs.Records.{member_len, members_len}
 use Rattle.ed_members.specs.Steps.{steps_seen}
-use Rattle.ed_project.specs.Kept.{Rises, member_pairs, pairs_of}
+use Rattle.ed_kept.specs.Kept.{pairs_of}
+use Rattle.ed_project.specs.Kept.{Rises, member_pairs}
 use Rattle.ed_project.proofs.Walking.{become_at, become_len, get_within, each_more, walk_end, walk_more}
 use Rattle.ed_project.proofs.runs.kept_runs.Goals as goal
 

@@ -3,7 +3,8 @@ use Rattle.std.specs.Prelude.{slice_get}
 use Rattle.ed_base.specs.declared.piece.Member.{Member}
 use Rattle.ed_layers.specs.Records.{members_len}
 use Rattle.ed_members.specs.Steps.{steps_seen}
-use Rattle.ed_project.specs.Kept.{AllBecome, Rises, all_pairs, pairs_of}
+use Rattle.ed_kept.specs.Kept.{pairs_of}
+use Rattle.ed_project.specs.Kept.{AllBecome, Rises, all_pairs}
 use Rattle.ed_project.proofs.runs.kept_runs.Given as goal
 
 abbrev pub invariant-loop-i : goal.invariant-loop-i

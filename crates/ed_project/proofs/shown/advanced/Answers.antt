@@ -1,7 +1,8 @@
 use Rattle.std.proofs.Common.{length, ap, sym, subst, ◌∙◌}
 use Rattle.ed_layers.specs.CarrierStep.{all_stay, stay_around}
 use Rattle.ed_members.specs.Steps.{steps_seen}
-use Rattle.ed_project.specs.Kept.{AllBecome, pairs_of}
+use Rattle.ed_kept.specs.Kept.{pairs_of}
+use Rattle.ed_project.specs.Kept.{AllBecome}
 use Rattle.ed_project.specs.Planning.{IsNext}
 use Rattle.ed_project.specs.Records.{shown}
 use Rattle.ed_project.specs.Texts.{LiteralsStay}

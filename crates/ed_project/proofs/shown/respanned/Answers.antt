@@ -2,7 +2,8 @@ use Rattle.std.proofs.Common.{◌≡◌, ℕ, ◌+◌, ◌-◌, length, ap, sym,
 use Rattle.ed_layers.specs.CarrierStep.{stay_around}
 use Rattle.ed_layers.specs.Records.{members_len}
 use Rattle.ed_members.specs.Faults.{replaced}
-use Rattle.ed_project.specs.Kept.{ArePairsRising, pairs_around}
+use Rattle.ed_kept.specs.Kept.{ArePairsRising}
+use Rattle.ed_project.specs.Kept.{pairs_around}
 use Rattle.ed_project.specs.Planning.{IsNext, added_in}
 use Rattle.ed_project.specs.Records.{shown}
 use Rattle.ed_project.specs.Texts.{LiteralsStay, no_steps}

@@ -1,5 +1,6 @@
 use Rattle.std.proofs.Common.{◌≡◌, ◌++◌, take}
-use Rattle.ed_project.specs.Kept.{pairs_of, runs_of, shown_pairs}
+use Rattle.ed_kept.specs.Kept.{pairs_of, runs_of}
+use Rattle.ed_project.specs.Kept.{shown_pairs}
 use Rattle.ed_project.proofs.sources.put_moved.Given as goal
 
 abbrev pub invariant-loop-i : goal.invariant-loop-i

@@ -3,7 +3,7 @@ use Rattle.std.specs.Prelude.{slice_index}
 use Rattle.ed_base.specs.ChangeList.{new_len}
 use Rattle.ed_base.specs.NewStarts.{starts_from}
 use Rattle.ed_project.proofs.SourceRuns.{RunFound, first_found, later_found}
-use Rattle.ed_project.specs.Kept.{kept_run}
+use Rattle.ed_kept.specs.Kept.{kept_run}
 use Rattle.ed_project.proofs.sources.run_at.Goals as goal
 use Rattle.ed_project.proofs.sources.run_at.Goals.{Then-i-eq0, After-as_slice, After-index-list-i}
 

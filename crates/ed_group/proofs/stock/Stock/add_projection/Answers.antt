@@ -15,7 +15,9 @@ use Rattle.ed_stock.specs.Making.{sources_in}
 use Rattle.ed_stock.specs.Stock.{now}
 use Rattle.ed_version.specs.declared.Snapshot.{Snapshot}
 use Rattle.ed_climb.proofs.KeptNumbers.{held_count, held_few, held_len, refuses_none, refuses_this}
-use Rattle.ed_group.proofs.Projected.{projection_stock, held_placements, passed_on, same_args, fault_first, fault_second, fault_third, have_all, projection_put, refuses_memory, snaps_held, sources_within}
+use Rattle.ed_group.proofs.NewCarrier.{held_placements, same_args}
+use Rattle.ed_group.proofs.Projected.{projection_stock, fault_first, fault_second, fault_third, have_all, projection_put, snaps_held, sources_within}
+use Rattle.ed_group.proofs.Refusing.{passed_on, refuses_memory}
 use Rattle.ed_climb.proofs.Snapshots.{snaps}
 use Rattle.ed_group.proofs.Lasting.{others_stay}
 use Rattle.ed_group.proofs.stock.Stock.add_projection.Goals as goal

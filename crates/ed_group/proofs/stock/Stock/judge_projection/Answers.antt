@@ -11,7 +11,8 @@ use Rattle.ed_held.specs.Moves.{snapshot_now}
 use Rattle.ed_held.specs.Seen.{known, stock}
 use Rattle.ed_climb.proofs.KeptNumbers.{held_few, held_len}
 use Rattle.ed_group.proofs.Judged.{judged_first, judged_none, judged_second}
-use Rattle.ed_group.proofs.Projected.{passed_on, snaps_held, sources_within}
+use Rattle.ed_group.proofs.Projected.{snaps_held, sources_within}
+use Rattle.ed_group.proofs.Refusing.{passed_on}
 use Rattle.ed_climb.proofs.Snapshots.{snaps}
 use Rattle.ed_group.proofs.stock.Stock.judge_projection.Goals as goal
 

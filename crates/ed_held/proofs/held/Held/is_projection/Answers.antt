@@ -1,6 +1,7 @@
 use Rattle.std.proofs.Common.{sym, ap, ◌∙◌, length, ◌-◌}
 use Rattle.std.specs.Prelude.{not, ◌&&◌}
 use Rattle.ed_layers.specs.Records.{is_carrier, is_elision}
+use Rattle.ed_held.proofs.ElisionLemmas.{elision_last}
 use Rattle.ed_held.specs.declared.held.Held.{Held}
 use Rattle.ed_held.specs.Seen.{known, last_of}
 use Rattle.ed_held.proofs.KindLemmas.{base_last, projection_last}
@@ -15,3 +16,8 @@ pub returns-in-Projection : goal.returns-in-Projection
 returns-in-Projection c =
     sym (ap (λ (h : Held). is_carrier (last_of (known h).buffer) && not (is_elision (last_of (known h).buffer))) c.in-Projection.is
     ∙ ap (λ r. is_carrier r && not (is_elision r)) (projection_last c.in-Projection.projection c.in-Projection.turns c.now-now.ensures.some))
+
+pub returns-in-Elision : goal.returns-in-Elision
+returns-in-Elision c =
+    sym (ap (λ (h : Held). is_carrier (last_of (known h).buffer) && not (is_elision (last_of (known h).buffer))) c.in-Elision.is
+    ∙ ap (λ r. is_carrier r && not (is_elision r)) (elision_last c.in-Elision.elision c.in-Elision.turns c.now-now-in-Elision.ensures.some))

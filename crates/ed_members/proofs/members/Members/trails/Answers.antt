@@ -1,5 +1,5 @@
 -- One member more, and all.
-use Rattle.std.proofs.Common.{◌≡◌, ℕ, List, Result, Ok, Err, IfOk, false, ap, arith, sym, subst, ◌∙◌}
+use Rattle.std.proofs.Common.{◌≡◌, ℕ, List, Result, Ok, Err, IfOk, ap, arith, sym, subst, ◌∙◌}
 use Rattle.ed_layers.specs.CarrierStep.{record_trails}
 use Rattle.ed_layers.specs.Records.{member_len, members_len, projection}
 use Rattle.ed_pieces.specs.Trails.{trails_in}
@@ -18,7 +18,7 @@ put_member-requires-clause-place c =
 
 pub loop-index-preserved : goal.loop-index-preserved
 loop-index-preserved c =
-    say_more c.args.me (steps_seen c.args.steps.now) c.args.self.now c.loop-index.index c.place-place.result.start c.get-member.result.now c.loop-index.list.items c.put_member.new.list.items c.get-member.ensures
+    say_more c.args.me c.args.of_elision (steps_seen c.args.steps.now) c.args.self.now c.loop-index.index c.place-place.result.start c.get-member.result.now c.loop-index.list.items c.put_member.new.list.items c.get-member.ensures
     (ap (λ s. s.start) c.place-place.ensures.place) c.loop-index.invariant c.in_ok-put_member.ensures
 
 pub of-requires : goal.of-requires
@@ -30,5 +30,5 @@ if_made (Err e) P x is h = tt
 
 pub returns : goal.returns
 returns c =
-    if_made c.of.result (λ t. (sources : List (ℕ × ℕ)) → trails_in t (members_len c.args.self.now) ≡ record_trails c.args.me false (steps_seen c.args.steps.now) (projection c.args.self.now sources)) c.loop-index.list.items c.of.ensures
-    (say_all c.args.me (steps_seen c.args.steps.now) c.args.self.now c.loop-index.index c.loop-index.list.items (omega (arith, c.loop-index-test.false, c.count-index-end.ensures.count)) c.loop-index.invariant)
+    if_made c.of.result (λ t. (sources : List (ℕ × ℕ)) → trails_in t (members_len c.args.self.now) ≡ record_trails c.args.me c.args.of_elision (steps_seen c.args.steps.now) (projection c.args.self.now sources)) c.loop-index.list.items c.of.ensures
+    (say_all c.args.me c.args.of_elision (steps_seen c.args.steps.now) c.args.self.now c.loop-index.index c.loop-index.list.items (omega (arith, c.loop-index-test.false, c.count-index-end.ensures.count)) c.loop-index.invariant)
