@@ -61,7 +61,7 @@ fn group_of(
     })
 }
 
-/// The fault of a projection on the way as it is told.
+/// The fault of a projection or an elision buffer on the way as it is told.
 fn carried(fault: ProjectionFault) -> PlanFault
     ensures { result ≡ carried_fault fault }
 {

@@ -38,7 +38,7 @@ fn make_all(buffers: &mut [Held], moves: Vec<Move>)
     }
 }
 
-/// One turn more of the projection that was turned, if one was.
+/// One turn more of the buffer that was turned, if one was.
 fn turn(buffers: &mut [Held], turned: Option<BufferNo>)
     requires { MatchOption turned (Unit {0}) (MayTurn buffers.old) }
     ensures len { length buffers.new ≡ length buffers.old }

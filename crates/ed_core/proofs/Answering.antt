@@ -16,6 +16,7 @@ use Rattle.ed_machine.specs.Step.{told, within_limits, weighed}
 use Rattle.ed_core.specs.Within.{IsWithin}
 use Rattle.ed_core.specs.Reading.{reply_unless, read_answer, text_answer, lines_answer, changes_answer, versions_answer, point_answer, span_answer, asked_answer, nearest_answer}
 use Rattle.ed_core.proofs.Limits.{told-refused, told-accepted, read-light}
+use Rattle.ed_core.proofs.Firsts.{or_else-none}
 
 -- ---- the whole step
 
@@ -34,10 +35,6 @@ pub read-step : (hooks : HookTable) (s : State) (command : Command) → IsWithin
 read-step hooks s command within reads = by_refusal hooks s command (refusal hooks s command) within reads refl
 
 -- ---- what is answered, by the name of the buffer
-
-or_else-none : {X : Type 0} (o : Option X) → or_else o None ≡ o
-or_else-none None = refl
-or_else-none (Some x) = refl
 
 nested : {X : Type 0} (a b c d : Option X) → first_some (first_some (a ∷ b ∷ c ∷ []) ∷ d ∷ []) ≡ first_some (a ∷ b ∷ c ∷ d ∷ [])
 nested None None None d = refl

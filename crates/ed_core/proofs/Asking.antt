@@ -10,6 +10,7 @@ use Rattle.ed_machine.specs.State.{State, number, number_of}
 use Rattle.ed_machine.specs.Naming.{members, names_in}
 use Rattle.ed_machine.specs.Refusals.{past_now, past_spans}
 use Rattle.ed_core.specs.Asking.{members_asked, past_members}
+use Rattle.ed_core.proofs.Firsts.{or_else-none}
 
 some-inj : {X : Type 0} {x y : X} → Some x ≡ Some y → x ≡ y
 some-inj e = cc
@@ -17,10 +18,6 @@ some-inj e = cc
 map-if : {X Y : Type 0} (f : X → Y) (x : X) (b : Bool) → option_map f (if b then None else Some x) ≡ (if b then None else Some (f x))
 map-if f x true = refl
 map-if f x false = refl
-
-or_else-none : {X : Type 0} (o : Option X) → or_else o None ≡ o
-or_else-none None = refl
-or_else-none (Some x) = refl
 
 module _ (s : State) where
   abbrev unnamed : List ScriptSpan → Bool

@@ -33,15 +33,11 @@ use Rattle.ed_core.specs.Within.{IsWithin}
 use Rattle.ed_core.proofs.Asking.{asked-none, asked-some, pasts}
 use Rattle.ed_core.proofs.Deciding.{decided, or_refused-twice}
 use Rattle.ed_core.proofs.Few.{few-new, few-kept}
-use Rattle.ed_core.proofs.Firsts.{first_some-append}
+use Rattle.ed_core.proofs.Firsts.{first_some-append, or_else-none}
 use Rattle.ed_core.proofs.Keeping.{keeps-landed, keeps-spans_set}
 use Rattle.ed_core.proofs.Limits.{told-refused}
 use Rattle.ed_core.proofs.Nothing.{nothing_denied, nothing_faulty, nothing_sent, some_landed}
 use Rattle.ed_core.proofs.Resolvers.{limits-new}
-
-or_else-none : {X : Type 0} (o : Option X) → or_else o None ≡ o
-or_else-none None = refl
-or_else-none (Some x) = refl
 
 or_else-assoc : {X : Type 0} (a b c : Option X) → or_else (or_else a b) c ≡ or_else a (or_else b c)
 or_else-assoc None b c = refl

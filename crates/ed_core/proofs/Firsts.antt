@@ -7,6 +7,10 @@ use Rattle.ed_base.specs.Numbers.{first_some, or_else, is_among}
 use Rattle.ed_graph.proofs.Lists.{or_cases}
 use Rattle.ed_stock.specs.Limits.{some_over}
 
+pub or_else-none : {X : Type 0} (o : Option X) → or_else o None ≡ o
+or_else-none None = refl
+or_else-none (Some x) = refl
+
 pub first_some-append : {X : Type 0} (xs ys : List (Option X)) → first_some (xs ++ ys) ≡ or_else (first_some xs) (first_some ys)
 first_some-append [] ys = refl
 first_some-append (None ∷ xs) ys = first_some-append xs ys

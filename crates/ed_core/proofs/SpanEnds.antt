@@ -11,10 +11,7 @@ use Rattle.ed_machine.specs.State.{State, record_now}
 use Rattle.ed_stock.specs.Making.{flags_of}
 use Rattle.ed_core.specs.Asking.{elide_refusal}
 use Rattle.ed_core.proofs.Reaching.{next-of}
-
-or_else-none : {X : Type 0} (o : Option X) → or_else o None ≡ o
-or_else-none None = refl
-or_else-none (Some x) = refl
+use Rattle.ed_core.proofs.Firsts.{or_else-none}
 
 pub past-append : (xs ys : List ℕ) (n : ℕ) → past (xs ++ ys) n ≡ or_else (past xs n) (past ys n)
 past-append [] ys n = refl

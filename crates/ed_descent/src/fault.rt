@@ -10,7 +10,7 @@ use thiserror::Error;
 /// Why edits can't be sent down.
 #[derive(Clone, Copy, Debug, PartialEq, Eq, Error)]
 pub enum DescentFault {
-    /// A projection can't send on what arrives there.
+    /// A projection or an elision buffer can't send on what arrives there.
     #[error("it is refused")]
     Refused(Refusal),
     /// Memory was refused.

@@ -44,20 +44,21 @@ fn planned(
 }
 
 impl Stock {
-    /// Plans edits of any buffers as one group. What is done to a projection is sent down to the
-    /// bases through all projections between; each base that is reached gets one version, by number,
-    /// and then each buffer that stands over one with a new version, in the order of the graph.
+    /// Plans edits of any buffers as one group. What is done to a projection or an elision buffer is
+    /// sent down to the bases through all that stands between; each base that is reached gets one
+    /// version, by number, and then each buffer that stands over one with a new version, in the order
+    /// of the graph.
     /// Changes that do nothing make no version. Contracts see the stock as it was, also after a
     /// fault: only room is reserved.
     ///
-    /// The edits of projections together put in at most 2^22 units, and with those of any one base at
-    /// most 2^27.
+    /// The edits of projections and elision buffers together put in at most 2^22 units, and with those
+    /// of any one base at most 2^27.
     ///
     /// # Errors
     ///
-    /// A projection can't send on what arrives there, in the reverse of the graph's order; or else a
-    /// read-only region denies a change, of the first base; or else a limit is passed; or memory was
-    /// refused.
+    /// A projection or an elision buffer can't send on what arrives there, in the reverse of the
+    /// graph's order; or else a read-only region denies a change, of the first base; or else a limit
+    /// is passed; or memory was refused.
     pub fn plan(
         &mut self,
         alloc: Global,

@@ -30,13 +30,13 @@ fn told(fault: DescentFault) -> PlanFault
 }
 
 /// The first versions of the group that these edits lead to: those of the bases that they reach. An
-/// edit of a projection is sent down to the bases.
+/// edit of a projection or an elision buffer is sent down to the bases.
 ///
 /// # Errors
 ///
-/// A projection can't send on what arrives there, in the reverse of the graph's order; or else a
-/// region denies a change, of the first base; or else the text of a base would have more than 2^22
-/// units; or memory was refused.
+/// A projection or an elision buffer can't send on what arrives there, in the reverse of the graph's
+/// order; or else a region denies a change, of the first base; or else the text of a base would have
+/// more than 2^22 units; or memory was refused.
 pub fn begun(
     alloc: Global,
     hooks: &Hooks,

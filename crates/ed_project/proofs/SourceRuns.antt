@@ -7,27 +7,14 @@ use Rattle.ed_base.specs.declared.edit.Change.{Change}
 use Rattle.ed_base.specs.ChangeList.{ChangeList, AreNormalFrom, IsNormal, step, new_len}
 use Rattle.ed_base.specs.NewStarts.{starts_from}
 use Rattle.ed_base.proofs.NormalLists.{normal_earlier, end_from, new_len_is_end, reached_below_end}
-use Rattle.ed_base.proofs.NormalSteps.{run, kept_from, normal_kept, normal_new_len}
+use Rattle.ed_base.proofs.NormalSteps.{normal_new_len}
 use Rattle.ed_kept.specs.declared.kept.KeptRun.{KeptRun}
 use Rattle.ed_project.specs.declared.kept.Move.{Move}
 use Rattle.ed_kept.specs.Kept.{ArePairsRising, kept_run, pairs_of, run_pairs, runs_from, runs_of}
 use Rattle.ed_project.specs.Kept.{shown_pairs, stop_at}
-use Rattle.ed_kept.proofs.Rising.{pairs_append, pairs_push, rising_run, rising_join, rising_weak}
+use Rattle.ed_kept.proofs.Rising.{pairs_append, pairs_push}
+use Rattle.ed_kept.proofs.RunLemmas.{step_kept, step_rising}
 use Rattle.ed_project.proofs.Showing.{shown_append, shown_before, shown_behind}
-
-run_same : (i j k : ℕ) → run i j k ≡ run_pairs i j k
-run_same i j zero = refl
-run_same i j (suc k) = ap (λ zs. (i, j) ∷ zs) (run_same (i + 1) (j + 1) k)
-
-runs_kept : (i j n : ℕ) (cs : List Change) → kept_from i j n cs ≡ pairs_of (runs_from i j n cs)
-runs_kept i j n [] = run_same i j (n - i) ∙ sym (append-nil (run_pairs i j (n - i)))
-runs_kept i j n (c ∷ cs) =
-    ap (λ zs. zs ++ kept_from (c.start + c.old_len) (j + (c.start - i) + length c.text) n cs) (run_same i j (c.start - i))
-    ∙ ap (λ zs. run_pairs i j (c.start - i) ++ zs) (runs_kept (c.start + c.old_len) (j + (c.start - i) + length c.text) n cs)
-
--- What a step keeps are its runs.
-pub step_kept : (c : ChangeList) → IsNormal c → (step c).kept ≡ pairs_of (runs_of c)
-step_kept c normal = normal_kept c normal.changes ∙ runs_kept 0 0 c.old_len c.changes
 
 -- where the run with this index begins in the old and in the new text
 abbrev pub old_at : ℕ → List Change → ℕ → ℕ
@@ -124,28 +111,9 @@ none_from m i j n [] (suc k) normal there behind = absurd (omega arith)
 none_from m i j n (c ∷ cs) (suc k) normal there behind =
     none_from m (c.start + c.old_len) (j + (c.start - i) + length c.text) n cs k (normal_earlier (c.start + c.old_len) (c.start + c.old_len + 1) n cs (omega arith) normal.3) (omega arith) behind
 
--- What a step keeps rises.
-runs_rising : (i j n : ℕ) (cs : List Change) → i ≤ n → AreNormalFrom i n cs → ArePairsRising i j n (end_from i j n cs) (pairs_of (runs_from i j n cs))
-runs_rising i j n [] within normal =
-    let e : i + (n - i) ≡ n = omega arith in
-    rw (append-nil (run_pairs i j (n - i))) (subst (λ x. ArePairsRising i j x (j + (n - i)) (run_pairs i j (n - i))) e (rising_run i j (n - i)))
-runs_rising i j n (c ∷ cs) within normal =
-    let e : ℕ = c.start + c.old_len in
-    let w : ℕ = j + (c.start - i) + length c.text in
-    let rest : ArePairsRising e w n (end_from e w n cs) (pairs_of (runs_from e w n cs)) = runs_rising e w n cs normal.1 (normal_earlier e (e + 1) n cs (omega arith) normal.3) in
-    rising_join i j (i + (c.start - i)) (j + (c.start - i)) n (end_from e w n cs) (run_pairs i j (c.start - i)) (pairs_of (runs_from e w n cs)) (rising_run i j (c.start - i))
-    (rising_weak (i + (c.start - i)) (j + (c.start - i)) e w n (end_from e w n cs) (pairs_of (runs_from e w n cs)) (omega (arith, normal.0)) (omega arith) rest)
-
-pub step_rising : (c : ChangeList) → IsNormal c → ArePairsRising 0 0 c.old_len (new_len c) (step c).kept
-step_rising c normal =
-    subst (λ ps. ArePairsRising 0 0 c.old_len (new_len c) ps) (sym (step_kept c normal))
-    (subst (λ m. ArePairsRising 0 0 c.old_len m (pairs_of (runs_of c))) (new_len_is_end c.old_len c.changes normal.changes) (runs_rising 0 0 c.old_len c.changes (omega arith) normal.changes))
-
+-- What a step keeps rises up to its lengths.
 pub step_rises : (c : ChangeList) → IsNormal c → ArePairsRising 0 0 c.old_len (step c).new_len (step c).kept
 step_rises c normal = subst (λ m. ArePairsRising 0 0 c.old_len m (step c).kept) (sym (normal_new_len c normal.changes)) (step_rising c normal)
-
-pub step_len : (c : ChangeList) → IsNormal c → (step c).new_len ≡ new_len c
-step_len c normal = normal_new_len c normal.changes
 
 -- one run more
 pub take_more : {X : Type 0} (xs : List X) (k : ℕ) (x : X) → slice_get xs k ≡ Some x → take (k + 1) xs ≡ take k xs ++ x ∷ []

@@ -1,7 +1,8 @@
 use Rattle.std.proofs.Common.{◌≡◌, ℕ, List, ◌++◌, take, ap, sym, ◌∙◌, append_assoc, arith}
 use Rattle.ed_kept.specs.Kept.{pairs_of, run_pairs, runs_of}
 use Rattle.ed_project.specs.Kept.{shown_pairs}
-use Rattle.ed_project.proofs.SourceRuns.{shown_enough, shown_more, shown_whole, step_len, step_rises}
+use Rattle.ed_kept.proofs.RunLemmas.{step_len}
+use Rattle.ed_project.proofs.SourceRuns.{shown_enough, shown_more, shown_whole, step_rises}
 use Rattle.ed_project.proofs.sources.put_moved.Goals as goal
 
 pub returns-then-shift-run-clause-shown : goal.returns-then-shift-run-clause-shown
